@@ -1,0 +1,4 @@
+-- What the contracts of this crate cite.
+pub mod Widths
+pub mod Kinds
+pub mod Rows

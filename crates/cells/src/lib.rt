@@ -1,0 +1,4 @@
+// What a cell is: house widths, what a cell kind has to tell, and rows of whole characters.
+pub mod kinds;
+pub mod rows;
+pub mod widths;
