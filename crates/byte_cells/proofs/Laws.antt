@@ -6,6 +6,7 @@ use native.Mathlib.Omega.{arith}
 use lib.Dec.{leb, eqb}
 use Rattle.std.proofs.shelf.Tests.{both-ways, eqb-true, le-leb, lt-leb, cond-true, cond-false}
 use Rattle.std.proofs.shelf.Ways.{tells}
+use Rattle.cells.specs.Attributes.{are-attributes}
 use Rattle.cells.specs.Widths.{width-of, within}
 use Rattle.cells.specs.Kinds.{Lawful, MadeFor, DrawableSingle}
 use Rattle.cells.specs.declared.widths.Width.{Width}
@@ -25,9 +26,9 @@ made-for One c e =
     record { drawable = h; single = h }
 made-for Two c e = (record { drawable = refl; single = refl }, record { drawable = refl; single = refl })
 
-makes : (c a : ℕ) → a ≤ 15 → MadeFor byte-glyph (width-of c) (make c a)
+makes : (c a : ℕ) → are-attributes a ≡ true → MadeFor byte-glyph (width-of c) (make c a)
 makes c a h =
-    rw (cond-true (leb a 15) (make-for (width-of c) c) Nothing (le-leb a 15 h)) (made-for (width-of c) c refl)
+    rw (cond-true (are-attributes a) (make-for (width-of c) c) Nothing h) (made-for (width-of c) c refl)
 
 pub lawful : Lawful byte-layer byte-glyph
 lawful = record {
@@ -43,5 +44,5 @@ lawful = record {
   one-right = λ c d e p q. absurd (both-ways false refl p);
   one-left = λ c d e p q. absurd (both-ways false refl p);
   makes = makes;
-  makes-nothing = λ c a h. cond-false (leb a 15) _ Nothing (lt-leb a 15 h);
+  makes-nothing = λ c a h. cond-false (are-attributes a) _ Nothing h;
 }

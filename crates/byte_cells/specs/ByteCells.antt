@@ -2,6 +2,7 @@
 use Prim.Native.Nat.{ℕ}
 use mathlib.Core.Bool.{Bool, false, cond}
 use lib.Dec.{leb, eqb}
+use Rattle.cells.specs.Attributes.{are-attributes}
 use Rattle.cells.specs.Widths.{within, width-of}
 use Rattle.cells.specs.Kinds.{Layer, Glyph}
 use Rattle.cells.specs.declared.widths.Width.{Width}
@@ -24,7 +25,7 @@ make-for One c = Single (byte-cell (cond (leb c 126) c 63))
 make-for Two c = Singles (byte-cell 63) (byte-cell 63)
 
 abbrev pub make : ℕ → ℕ → Made ByteCell
-make c a = cond (leb a 15) (make-for (width-of c) c) Nothing
+make c a = cond (are-attributes a) (make-for (width-of c) c) Nothing
 
 abbrev pub byte-layer : Layer ByteCell
 byte-layer = record { clear = λ c. eqb (c .byte) 0; blank = byte-cell 32; punched = byte-cell 0 }

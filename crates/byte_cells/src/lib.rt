@@ -1,6 +1,6 @@
 // The byte cell: one byte of a terminal that shows ASCII without attributes.
-ghost use mathlib.Core.Path.{_≡_};
-ghost use Rattle.byte_cells.specs.ByteCells.{byte-layer, byte-glyph, make-for};
+ghost use Rattle.byte_cells.specs.ByteCells.{byte-layer, byte-glyph};
+use cells::attributes::are_attributes;
 use cells::kinds::LayerCell;
 use cells::kinds::Made;
 use cells::kinds::TerminalCell;
@@ -43,11 +43,11 @@ pub impl TerminalCell for ByteCell as ByteTerminalCell {
     }
 
     fn is_left(self) -> bool {
-        false
+        false // no byte is a left half
     }
 
     fn is_right(self) -> bool {
-        false
+        false // nor a right half
     }
 
     fn same(self, other: ByteCell) -> bool {
@@ -55,11 +55,11 @@ pub impl TerminalCell for ByteCell as ByteTerminalCell {
     }
 
     fn belongs_with(self, _right: ByteCell) -> bool {
-        false
+        false // so none belong together
     }
 
     fn make(character: u32, attributes: u8) -> Made<ByteCell> {
-        if attributes > 15 {
+        if !are_attributes(attributes) {
             return Made::Nothing;
         }
         match Width::of(character) {

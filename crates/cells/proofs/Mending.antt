@@ -1,11 +1,12 @@
 -- The laws of mending.
-use Prim.Native.Nat.{ℕ, zero, suc, _<_}
+use Prim.Native.Nat.{ℕ, zero, suc, _+_, _<_}
 use mathlib.Core.Bool.{Bool, true, false, cond, _&&_, _||_}
 use mathlib.Core.List.{List, [], _∷_, _++_}
 use mathlib.Core.Path.{_≡_, refl, sym, ap, _∙_}
 use mathlib.Core.Logic.{_⊎_, inl, inr, ⊎-elim}
+use native.Mathlib.Numerals.{add-one}
 use native.Mathlib.Omega.{arith}
-use lib.ListN.{length, getD}
+use lib.ListN.{length, getD, set, take, drop}
 use Rattle.std.specs.Finite.{nth}
 use Rattle.std.specs.declared.option.Option.{Option}
 use Rattle.std.specs.declared.option.Option.the-variants.{Some, None}
@@ -14,8 +15,8 @@ use Rattle.std.proofs.shelf.Lists.{same-lists}
 use Rattle.std.proofs.shelf.Maps.{nth-getD}
 use Rattle.std.proofs.shelf.Tests.{both-ways, cases-bool, or-cases, or-left, or-right, cond-true, cond-false}
 use Rattle.cells.specs.Kinds.{Layer, Glyph}
-use Rattle.cells.specs.Rows.{before, after, paired, stays, mended-cell, mended-at, mended, Whole, Local}
-use Rattle.cells.proofs.Places.{nth-within, nth-value}
+use Rattle.cells.specs.Rows.{before, after, paired, stays, mended-cell, mended-at, mended, ByColumn, Whole}
+use Rattle.cells.proofs.Places.{nth-within, nth-value, nth-over, over-more}
 
 cond-same : {A : Type 0} (b : Bool) (x : A) → cond b x x ≡ x
 cond-same true x = refl
@@ -44,14 +45,10 @@ module _ {C : Type 0} (l : Layer C) (g : Glyph C) where
   unfolding mended
   getD-mended row k d h = getD-map-counting (mended-at l g row) 0 (length row) k k d h (omega arith)
 
-  pub nth-mended : (row : List C) (k : ℕ) (c : C) → nth row k ≡ Some c → nth (mended l g row) k ≡ Some (mended-cell l g (before row k) c (after row k))
+  pub nth-mended : (row : List C) → ByColumn l g row (mended l g row)
   nth-mended row k c e =
       let h : k < length (mended l g row) = omega (arith, nth-within row k c e, length-mended row) in
       nth-getD (mended l g row) k (l .blank) h ∙ ap Some (getD-mended row k (l .blank) (nth-within row k c e) ∙ ap (λ (x : C). mended-cell l g (before row k) x (after row k)) (nth-value row k c (l .blank) e))
-
-  -- whatever else the row holds
-  pub local : (left : Option C) (c : C) (right : Option C) (new : C) → new ≡ mended-cell l g left c right → Local l g left c right new
-  local left c right new e row k p q r = nth-mended row k c q ∙ ap Some (cc)
 
   module _ (row : List C) where
     -- a cell that stays is there in the mended row
@@ -100,3 +97,12 @@ module _ {C : Type 0} (l : Layer C) (g : Glyph C) where
         (λ k d h. let within : k < length row = omega (arith, h, length-mended (mended l g row), length-mended row) in
         let e = settled-at k (getD row k d) (nth-getD row k d within) in
         nth-value _ k _ d (e ∙ nth-getD (mended l g row) k d (omega (arith, within, length-mended row))))
+
+    -- the step of a loop that mends from the left: `now` is mended below k and raw from k on
+    pub mend-more : (now : List C) (k : ℕ) (c new : C) (left right : Option C) → now ≡ take k (mended l g row) ++ drop k row → left ≡ before row k → nth now k ≡ Some c → right ≡ nth now (k + 1) → new ≡ mended-cell l g left c right → (set now k new ≡ take (k + 1) (mended l g row) ++ drop (k + 1) row) × (Some c ≡ before row (k + 1))
+    mend-more now k c new left right e f h r n =
+        let long = length-mended row in
+        let here : nth row k ≡ Some c = sym (nth-over k (mended l g row) row long k (omega arith)) ∙ rw e at h in
+        let next : right ≡ after row k = rw e at r ∙ nth-over k (mended l g row) row long (k + 1) (omega arith) ∙ ap (nth row) (add-one k) in
+        let made : nth (mended l g row) k ≡ Some new = nth-mended row k c here ∙ sym (ap Some (n ∙ ap (λ (o : Option C). mended-cell l g o c right) f ∙ ap (mended-cell l g (before row k) c) next)) in
+        (over-more (mended l g row) row now k new long e made, rw add-one (sym here))

@@ -1,7 +1,8 @@
 -- What a cell kind tells, and the laws that every kind for a terminal answers by.
-use Prim.Native.Nat.{ℕ, _≤_, _<_}
+use Prim.Native.Nat.{ℕ}
 use mathlib.Core.Bool.{Bool, true, false}
 use mathlib.Core.Path.{_≡_}
+use Rattle.cells.specs.Attributes.{are-attributes}
 use Rattle.cells.specs.Widths.{width-of}
 use Rattle.cells.specs.declared.widths.Width.{Width}
 use Rattle.cells.specs.declared.widths.Width.the-variants.{Zero, One, Two}
@@ -66,5 +67,5 @@ pub record Lawful {C : Type 0} (l : Layer C) (g : Glyph C) : Type 0 where
   pub one-right : (c d e : C) → g .belong c d ≡ true → g .belong c e ≡ true → d ≡ e
   pub one-left : (c d e : C) → g .belong c e ≡ true → g .belong d e ≡ true → c ≡ d
   -- what is made is drawable, a pair belonging together; attributes above 15 make nothing
-  pub makes : (c a : ℕ) → a ≤ 15 → MadeFor g (width-of c) (g .make c a)
-  pub makes-nothing : (c a : ℕ) → 15 < a → g .make c a ≡ Nothing
+  pub makes : (c a : ℕ) → are-attributes a ≡ true → MadeFor g (width-of c) (g .make c a)
+  pub makes-nothing : (c a : ℕ) → are-attributes a ≡ false → g .make c a ≡ Nothing

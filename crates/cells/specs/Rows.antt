@@ -45,8 +45,7 @@ mended l g row = map (mended-at l g row) (counting 0 (length row))
 abbrev pub Whole : {C : Type 0} → Layer C → Glyph C → List C → Type 0
 Whole l g row = mended l g row ≡ row
 
--- whatever else a row holds, with these neighbours a cell is mended to `new`
-abbrev pub Local : {C : Type 0} → Layer C → Glyph C → Option C → C → Option C → C → Type 0
-Local {C} l g left c right new =
-    (row : List C) (column : ℕ) → before row column ≡ left → nth row column ≡ Some c → after row column ≡ right
-    → nth (mended l g row) column ≡ Some new
+-- each cell of a mended row depends on its own raw cell and the two raw neighbours only
+abbrev pub ByColumn : {C : Type 0} → Layer C → Glyph C → List C → List C → Type 0
+ByColumn {C} l g row new =
+    (column : ℕ) (c : C) → nth row column ≡ Some c → nth new column ≡ Some (mended-cell l g (before row column) c (after row column))

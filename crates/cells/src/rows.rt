@@ -1,10 +1,7 @@
 // Rows of whole characters: mending turns every half that stands alone, and all that cannot be drawn, into the blank.
 ghost use mathlib.Core.Path.{_≡_};
-ghost use mathlib.Core.List.{List};
-ghost use Prim.Native.Nat.{ℕ, _+_};
 ghost use Rattle.std.specs.Finite.{nth};
-ghost use Rattle.std.specs.declared.option.Option.the-variants.{Some};
-ghost use Rattle.cells.specs.Rows.{paired, stays, mended-cell, mended, Whole, Local};
+ghost use Rattle.cells.specs.Rows.{paired, stays, mended-cell, mended, ByColumn, Whole};
 use crate::kinds::TerminalCell;
 
 // The cell at a column, none past the row's end.
@@ -37,10 +34,9 @@ fn does_stay<C: TerminalCell>(before: Option<C>, cell: C, after: Option<C>) -> b
         || are_paired(before, Some(cell))
 }
 
-// The mended cell between its raw neighbours, none at an end of the row. It is that of every row that has the three.
-pub fn mended_cell<C: TerminalCell>(before: Option<C>, cell: C, after: Option<C>) -> C
-    ensures rule { λ r. ⌜ r ≡ mended-cell (C·LayerCell .layer) (C·TerminalCell .glyph) before cell after ⌝ }
-    ensures local { λ r. ⌜ Local (C·LayerCell .layer) (C·TerminalCell .glyph) before cell after r ⌝ }
+// The mended cell between its raw neighbours, none at an end of the row.
+fn mended_cell<C: TerminalCell>(before: Option<C>, cell: C, after: Option<C>) -> C
+    ensures { λ r. ⌜ r ≡ mended-cell (C·LayerCell .layer) (C·TerminalCell .glyph) before cell after ⌝ }
 {
     if does_stay(before, cell, after) {
         cell
@@ -52,6 +48,7 @@ pub fn mended_cell<C: TerminalCell>(before: Option<C>, cell: C, after: Option<C>
 // Mends a row in place.
 pub fn mend<C: TerminalCell>(row: &mut [C])
     ensures mended { λ _. ⌜ now (row .exit) ≡ mended (C·LayerCell .layer) (C·TerminalCell .glyph) (now (row .entry)) ⌝ }
+    ensures by_column { λ _. ⌜ ByColumn (C·LayerCell .layer) (C·TerminalCell .glyph) (now (row .entry)) (now (row .exit)) ⌝ }
     ensures whole { λ _. ⌜ Whole (C·LayerCell .layer) (C·TerminalCell .glyph) (now (row .exit)) ⌝ }
 {
     let mut before = None;

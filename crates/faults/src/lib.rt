@@ -1,9 +1,10 @@
 // The refusals of the library: each call that refuses answers one of these, with its number and layer.
 ghost use mathlib.Core.Path.{_≡_};
+ghost use lib.Dec.{eqb};
 ghost use Rattle.faults.specs.Faults.{number-of, layer-of};
 
 // Why a call was refused.
-#[derive(Clone, Copy, PartialEq, Eq, Debug)]
+#[derive(Clone, Copy, Eq, Debug)]
 pub enum Fault {
     // rows, columns or a side outside their limits
     BadSize,
@@ -89,5 +90,14 @@ impl Fault {
                 FaultLayer::Terminal,
             _ => FaultLayer::Screen,
         }
+    }
+}
+
+// Refusals are equal if their numbers are.
+pub impl PartialEq<Fault> for Fault as FaultPartialEq {
+    ghost equals = { λ x y r. r ≡ eqb (number-of x) (number-of y) };
+
+    fn eq(&self, other: &Fault) -> bool {
+        self.number() == other.number()
     }
 }

@@ -5,6 +5,7 @@ use mathlib.Core.Path.{_≡_, refl, sym, ap, _∙_}
 use native.Mathlib.Omega.{arith}
 use lib.Dec.{leb, eqb}
 use Rattle.std.proofs.shelf.Tests.{both-ways, and-parts, and-from, and-right, eqb-true, eq-eqb, le-leb, lt-leb, cond-true, cond-false}
+use Rattle.cells.specs.Attributes.{are-attributes}
 use Rattle.cells.specs.Widths.{width-of}
 use Rattle.cells.specs.Kinds.{Lawful, MadeFor, DrawableSingle}
 use Rattle.cells.specs.declared.widths.Width.{Width}
@@ -101,7 +102,7 @@ one-left c d e p q =
     same-cell c d (h .character ∙ sym (i .character)) (left-part _ (h .left) ∙ sym (left-part _ (i .left))) (h .attributes ∙ sym (i .attributes))
 
 -- What is made of a character of each width.
-made-for : (w : Width) (c a : ℕ) → width-of c ≡ w → leb a 15 ≡ true → MadeFor text-glyph w (make-for w c a)
+made-for : (w : Width) (c a : ℕ) → width-of c ≡ w → are-attributes a ≡ true → MadeFor text-glyph w (make-for w c a)
 made-for Zero c a e h = tt
 made-for One c a e h = record { drawable = and-from _ _ h (ap (fits-width Single) e); single = refl }
 made-for Two c a e h =
@@ -109,10 +110,9 @@ made-for Two c a e h =
     let r = and-from _ _ h (ap (fits-width Right) e) in
     and-from _ _ l (and-from _ _ r (and-from _ _ (eq-eqb c c refl) (eq-eqb a a refl)))
 
-makes : (c a : ℕ) → a ≤ 15 → MadeFor text-glyph (width-of c) (make c a)
+makes : (c a : ℕ) → are-attributes a ≡ true → MadeFor text-glyph (width-of c) (make c a)
 makes c a h =
-    let t = le-leb a 15 h in
-    rw (cond-true (leb a 15) (make-for (width-of c) c a) Nothing t) (made-for (width-of c) c a refl t)
+    rw (cond-true (are-attributes a) (make-for (width-of c) c a) Nothing h) (made-for (width-of c) c a refl h)
 
 pub lawful : Lawful text-layer text-glyph
 lawful = record {
@@ -128,5 +128,5 @@ lawful = record {
   one-right = one-right;
   one-left = one-left;
   makes = makes;
-  makes-nothing = λ c a h. cond-false (leb a 15) _ Nothing (lt-leb a 15 h);
+  makes-nothing = λ c a h. cond-false (are-attributes a) _ Nothing h;
 }

@@ -2,6 +2,7 @@
 use Prim.Native.Nat.{ℕ}
 use mathlib.Core.Bool.{Bool, true, false, cond, _&&_}
 use lib.Dec.{leb, eqb}
+use Rattle.cells.specs.Attributes.{are-attributes}
 use Rattle.cells.specs.Widths.{width-of}
 use Rattle.cells.specs.Kinds.{Layer, Glyph}
 use Rattle.cells.specs.declared.widths.Width.{Width}
@@ -55,7 +56,7 @@ fits-width Clear w = false
 
 -- and attributes up to 15
 abbrev pub drawable : TextCell → Bool
-drawable c = leb (c .attributes) 15 && fits-width (c .part) (width-of (c .character))
+drawable c = are-attributes (c .attributes) && fits-width (c .part) (width-of (c .character))
 
 -- a drawable left and a drawable right half of equal character and attributes
 abbrev pub belong : TextCell → TextCell → Bool
@@ -69,7 +70,7 @@ make-for One c a = MadeSingle (text c Single a)
 make-for Two c a = MadePair (text c Left a) (text c Right a)
 
 abbrev pub make : ℕ → ℕ → Made TextCell
-make c a = cond (leb a 15) (make-for (width-of c) c a) Nothing
+make c a = cond (are-attributes a) (make-for (width-of c) c a) Nothing
 
 abbrev pub text-layer : Layer TextCell
 text-layer = record { clear = λ c. is-clear (c .part); blank = text 32 Single 0; punched = text 0 Clear 0 }

@@ -1,22 +1,11 @@
-// The text cell: a character with attributes, or one half of it, or a clear cell.
+// The text cell: a character or one half of it, with attributes; or a clear cell.
 ghost use mathlib.Core.Path.{_≡_};
-ghost use mathlib.Core.Bool.{true};
-ghost use Rattle.std.specs.Orderings.{Decides};
-ghost use Rattle.cells.specs.Kinds.{Layer, Glyph, Lawful};
-ghost use Rattle.text_cells.specs.TextCells.{fits-width, text-layer, text-glyph};
+ghost use Rattle.text_cells.specs.TextCells.{text, fits-width, text-layer, text-glyph};
+use cells::attributes::are_attributes;
 use cells::kinds::LayerCell;
 use cells::kinds::Made;
 use cells::kinds::TerminalCell;
 use cells::widths::Width;
-
-// Attributes add up: bold and reverse is 9.
-pub const BOLD: u8 = 1;
-
-pub const UNDERLINED: u8 = 2;
-
-pub const BLINKING: u8 = 4;
-
-pub const REVERSE: u8 = 8;
 
 // Which part of its character a cell is, or none of any.
 #[derive(Clone, Copy, PartialEq, Eq, Debug)]
@@ -34,6 +23,19 @@ pub struct TextCell {
     pub part: Part,
     // the sum of the attributes that are set; above 15 the cell is undrawable
     pub attributes: u8,
+}
+
+impl TextCell {
+    // A cell of these three.
+    pub fn new(character: u32, part: Part, attributes: u8) -> TextCell
+        ensures { λ r. ⌜ r ≡ text character part attributes ⌝ }
+    {
+        TextCell {
+            character,
+            part,
+            attributes,
+        }
+    }
 }
 
 // Is a character of that width drawable as that part?
@@ -54,19 +56,11 @@ pub impl LayerCell for TextCell as TextLayerCell {
     }
 
     fn blank() -> TextCell {
-        TextCell {
-            character: 32,
-            part: Part::Single,
-            attributes: 0,
-        }
+        TextCell::new(32, Part::Single, 0)
     }
 
     fn punched() -> TextCell {
-        TextCell {
-            character: 0,
-            part: Part::Clear,
-            attributes: 0,
-        }
+        TextCell::new(0, Part::Clear, 0)
     }
 }
 
@@ -74,7 +68,7 @@ pub impl TerminalCell for TextCell as TextTerminalCell {
     ghost glyph = { text-glyph };
 
     fn is_drawable(self) -> bool {
-        self.attributes <= 15 && fits_width(self.part, Width::of(self.character))
+        are_attributes(self.attributes) && fits_width(self.part, Width::of(self.character))
     }
 
     fn is_single(self) -> bool {
@@ -103,27 +97,15 @@ pub impl TerminalCell for TextCell as TextTerminalCell {
     }
 
     fn make(character: u32, attributes: u8) -> Made<TextCell> {
-        if attributes > 15 {
+        if !are_attributes(attributes) {
             return Made::Nothing;
         }
         match Width::of(character) {
             Width::Zero => Made::Nothing,
-            Width::One => Made::Single(TextCell {
-                character,
-                part: Part::Single,
-                attributes,
-            }),
+            Width::One => Made::Single(TextCell::new(character, Part::Single, attributes)),
             Width::Two => Made::Pair(
-                TextCell {
-                    character,
-                    part: Part::Left,
-                    attributes,
-                },
-                TextCell {
-                    character,
-                    part: Part::Right,
-                    attributes,
-                },
+                TextCell::new(character, Part::Left, attributes),
+                TextCell::new(character, Part::Right, attributes),
             ),
         }
     }
