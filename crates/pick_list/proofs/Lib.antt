@@ -1,0 +1,5 @@
+-- Lemmas that the proofs of this crate cite.
+pub mod Overlay
+pub mod Columns
+pub mod Scalars
+pub mod Numeric
