@@ -136,7 +136,12 @@ fn replay(rt: &LibcRuntime) -> Result<(), AnyError> {
         return Err("line 1: the width has to be a number from 1 to 128".into());
     };
     let Tally { rows, refused } = print_lines(rt, &mut input, width)?;
-    print!(rt, "{rows} row{} of {width} column{}, ", plural(rows), plural(width as u64))?;
+    print!(
+        rt,
+        "{rows} row{} of {width} column{}, ",
+        plural(rows),
+        plural(width as u64)
+    )?;
     println!(rt, "{refused} line{} refused", plural(refused))?;
     Ok(())
 }

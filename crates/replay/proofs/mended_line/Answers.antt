@@ -36,5 +36,5 @@ returns c =
       cut = c .lay-laid .ensures .cut ∙ ap (λ (n : ℕ). length cells - n) wide;
       dropped = c .lay-laid .ensures .dropped;
       blanked = subst (λ (xs : List TextCell). Differing wanted xs (c .count-differing-blanked .result)) (c .as-slice-3 .ensures .value)
-                (subst (λ (xs : List TextCell). Differing xs (c .as-slice-3 .result .now) (c .count-differing-blanked .result)) (c .as-slice-2 .ensures .value ∙ first) (c .count-differing-blanked .ensures));
+          (subst (λ (xs : List TextCell). Differing xs (c .as-slice-3 .result .now) (c .count-differing-blanked .result)) (c .as-slice-2 .ensures .value ∙ first) (c .count-differing-blanked .ensures));
     }
