@@ -2,4 +2,5 @@
 pub mod Overlay
 pub mod Columns
 pub mod Scalars
+pub mod Shown
 pub mod Numeric

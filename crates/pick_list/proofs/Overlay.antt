@@ -33,6 +33,11 @@ module _ {C : Type 0} where
       ∙ ap (λ (n : ℕ). written-from (over (cells ++ c ∷ []) old) n more) (length-push cells c ∙ add-one (length cells))
       ∙ ap (λ (xs : List C). written-from xs (suc (length cells)) more) (over-push cells old c)
 
+  -- the step of a loop that writes some cells more
+  pub over-more : (cells new old before after : List C) (n : ℕ) → before ≡ over cells old → n ≡ length cells → after ≡ written-from before n new → after ≡ over (cells ++ new) old
+  over-more cells new old before after n e f h =
+      h ∙ ap (λ (xs : List C). written-from xs n new) e ∙ ap (λ (k : ℕ). written-from (over cells old) k new) f ∙ sym (over-append cells old new)
+
   -- over a whole row
   pub over-all : (cells old : List C) → length cells ≡ length old → over cells old ≡ cells
   over-all [] [] e = refl

@@ -1,27 +1,22 @@
 -- Every drawable character is one that a text can have.
-use Prim.Native.Nat.{ℕ, _+_, _≤_, _<_}
-use mathlib.Core.Bool.{Bool, true, false, cond}
-use mathlib.Core.List.{List, [], _∷_, _++_}
+use Prim.Native.Nat.{ℕ, _≤_, _<_}
+use mathlib.Core.Bool.{true, false, cond}
+use mathlib.Core.List.{[], _∷_}
 use mathlib.Core.Logic.{_⊎_, inl, inr}
 use mathlib.Core.Path.{_≡_, refl, sym, ap, _∙_}
 use native.Mathlib.Omega.{arith}
-use lib.ListN.{length, getD, take}
-use lib.Utf8.{encodes}
 use Rattle.std.specs.Numbers.{Checked}
 use Rattle.std.specs.Options.{isSome, valueOr}
 use Rattle.std.specs.declared.option.Option.{Option}
 use Rattle.std.specs.declared.option.Option.the-variants.{Some, None}
-use Rattle.std.proofs.shelf.Text.{encodes-append}
 use Rattle.std.proofs.shelf.Tests.{both-ways, cases-bool, and-parts, or-cases, leb-true, cond-true, cond-false}
 use Rattle.cells.specs.Widths.{within, is-narrow, is-wide, width-of}
-use Rattle.cells.specs.declared.widths.Width.{Width}
 use Rattle.cells.specs.declared.widths.Width.the-variants.{Zero, One, Two}
 use Rattle.text_cells.specs.TextCells.{drawable, fits-width, is-right}
 use Rattle.text_cells.specs.declared.Part.{Part}
 use Rattle.text_cells.specs.declared.Part.the-variants.{Single, Left, Right, Clear}
 use Rattle.text_cells.specs.declared.TextCell.{TextCell}
-use Rattle.pick_list.specs.Showing.{shown-cell, shown-row}
-use Rattle.pick_list.proofs.Overlay.{joined-take-more}
+use Rattle.pick_list.specs.Showing.{shown-cell}
 
 -- the numbers below and above those that no character has
 abbrev pub IsCharacter : ℕ → Type 0
@@ -80,9 +75,3 @@ pub shows-character : (c : TextCell) (P : Type 0) (o : Option ℕ) → drawable 
 shows-character c P o d r h s =
     ap (λ (x : ℕ). x ∷ []) (value-is (c .character) P o (some-is (c .character) o (drawable-is c d) s) h)
     ∙ sym (cond-true (drawable c) _ (63 ∷ []) d ∙ cond-false (is-right (c .part)) [] (c .character ∷ []) r)
-
--- one cell more of a row that is shown
-pub shown-more : (row : List TextCell) (i : ℕ) (d : TextCell) (cs : List ℕ) → i < length row → cs ≡ shown-cell (getD row i d) → encodes (shown-row (take (i + 1) row)) ≡ encodes (shown-row (take i row)) ++ encodes cs
-shown-more row i d cs h e =
-    ap encodes (joined-take-more shown-cell row i d h) ∙ encodes-append (shown-row (take i row)) (shown-cell (getD row i d))
-    ∙ ap (λ (xs : List ℕ). encodes (shown-row (take i row)) ++ encodes xs) (sym e)

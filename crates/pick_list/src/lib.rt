@@ -1,6 +1,5 @@
 // A pick list on a terminal: its lines laid into rows of cells, and the rows as text again.
 ghost use mathlib.Core.Path.{_≡_};
-ghost use mathlib.Core.List.{List};
 ghost use Prim.Native.Nat.{ℕ, _-_, _^_, _<_, min};
 ghost use lib.ListN.{length, set, replicate};
 ghost use lib.Utf8.{encodes};
@@ -108,7 +107,7 @@ pub fn count_differing<C: TerminalCell>(raw: &[C], mended: &[C]) -> usize
     count
 }
 
-// The width that the first line of a pick list gives, if it is a decimal number from 1 to 128.
+// The width that the first line of a pick list gives, if it is a decimal number from 1 to 128. Zeros and one plus sign may stand in front.
 pub fn parse_width(line: &[u8]) -> Option<usize>
     ensures { λ r. ⌜ BySome r ((n : ℕ) → IsWidth (now (line .entry)) n → ⊥) (λ n. IsWidth (now (line .entry)) n) ⌝ }
 {
@@ -134,7 +133,7 @@ fn shown_character(cell: TextCell) -> Option<char>
     Some(char::from_u32(cell.character).unwrap_or('?'))
 }
 
-// A row as text: every drawable character once, and a question mark for each cell that cannot be drawn.
+// A row as text: each drawable single and left half by its character, a right half by nothing, what cannot be drawn by a question mark.
 pub fn show_row(heap: Global, row: &[TextCell]) -> Result<String, AllocError>
     ensures { λ r. ⌜ made-of r (λ s. string-bytes s ≡ encodes (shown-row (now (row .entry)))) ⌝ }
 {

@@ -1,6 +1,9 @@
 // Replays a pick list from standard input: its first line gives the width, every other line becomes a row of cells that is mended and printed.
 ghost use mathlib.Core.Path.{_≡_};
-ghost use mathlib.Core.List.{List};
+ghost use mathlib.Core.Bool.{cond};
+ghost use mathlib.Core.List.{[]};
+ghost use lib.Chars.{codes};
+ghost use lib.Dec.{eqb};
 ghost use Rattle.std.specs.Of.Vec.{vec-items};
 ghost use Rattle.std.specs.Vec.{made};
 ghost use Rattle.std.specs.shelf.Text.{decodes};
@@ -123,7 +126,9 @@ fn print_lines<R: Read>(
 }
 
 // What a noun ends in after a number.
-fn plural(count: u64) -> &'static str {
+fn plural(count: u64) -> &'static str
+    ensures { λ r. ⌜ now r ≡ cond (eqb count 1) [] (codes "s") ⌝ }
+{
     if count == 1 { "" } else { "s" }
 }
 

@@ -1,4 +1,4 @@
-use Prim.Native.Nat.{ℕ, _+_, _*_, _<_, _≤_}
+use Prim.Native.Nat.{ℕ, _+_}
 use mathlib.Core.List.{List, _++_}
 use mathlib.Core.Path.{_≡_, sym, ap, _∙_}
 use native.Mathlib.Omega.{arith}
@@ -6,8 +6,8 @@ use lib.ListN.{length, getD, take, replicate}
 use Rattle.std.proofs.shelf.Lists.{take-all, length-append}
 use Rattle.std.proofs.shelf.Sums.{countBy-more-yes, countBy-more-no}
 use Rattle.std.proofs.shelf.Tests.{eq-eqb, ne-eqb}
-use Rattle.pick_list.specs.Laying.{cells-in, cells-for, cells-of, makes-nothing, nothing-of, written-from}
-use Rattle.pick_list.proofs.Overlay.{over, over-append, over-blank-row, joined-take-more, short}
+use Rattle.pick_list.specs.Laying.{cells-in, cells-for, cells-of, makes-nothing, nothing-of}
+use Rattle.pick_list.proofs.Overlay.{over, over-more, over-blank-row, joined-take-more, short}
 use Rattle.pick_list.proofs.lay.Needs as need
 use Rattle.pick_list.proofs.lay.Needs.{then-count-eq0, else-count-eq0}
 
@@ -34,9 +34,7 @@ loop-character-again g c =
       | else-count-eq0 w ↦
           omega (arith, w .dropped-is, countBy-more-no (makes-nothing t) text i item h (ne-eqb _ 0 (λ e. w .if-count-eq0 .left (counted ∙ ap length here ∙ e))))
     ] in (
-      c .put-made-count .ensures .after ∙ ap (λ (xs : List (g .C .Denot)). written-from xs (c .loop-character .made) new) (inv .0)
-          ∙ ap (λ (n : ℕ). written-from (over cells blanks) n new) (inv .1) ∙ sym (over-append cells blanks new)
-          ∙ ap (λ (xs : List (g .C .Denot)). over xs blanks) (sym more)
+      over-more cells new blanks _ _ _ (inv .0) (inv .1) (c .put-made-count .ensures .after) ∙ ap (λ (xs : List (g .C .Denot)). over xs blanks) (sym more)
           ∙ ap (λ (n : ℕ). over (cells-of t (take (i + 1) text)) (replicate n b)) wide,
       omega (arith, ap length more, length-append cells new),
       omega (arith, short (c .make .result)),
