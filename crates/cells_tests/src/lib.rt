@@ -64,14 +64,6 @@ mod tests {
         }
     }
 
-    fn cell(character: u32, part: Part, attributes: u8) -> TextCell {
-        TextCell {
-            character,
-            part,
-            attributes,
-        }
-    }
-
     fn byte(byte: u8) -> ByteCell {
         ByteCell { byte }
     }
@@ -117,13 +109,13 @@ mod tests {
         let mut none: [TextCell; 0] = [];
         mend(&mut none);
         check_eq(none.len(), 0)?;
-        let letter = cell(97, Part::Single, 15);
+        let letter = TextCell::new(97, Part::Single, 15);
         let table = [
             (letter, letter),
-            (cell(97, Part::Single, 16), BLANK),
-            (cell(0x1F, Part::Single, 0), BLANK),
-            (cell(RICE, Part::Left, 0), BLANK),
-            (cell(RICE, Part::Right, 0), BLANK),
+            (TextCell::new(97, Part::Single, 16), BLANK),
+            (TextCell::new(0x1F, Part::Single, 0), BLANK),
+            (TextCell::new(RICE, Part::Left, 0), BLANK),
+            (TextCell::new(RICE, Part::Right, 0), BLANK),
             (CLEAR, BLANK),
         ];
         for (raw, mended) in table {
@@ -136,12 +128,12 @@ mod tests {
 
     #[test]
     fn halves_stay_only_beside_their_own() -> Result<(), Fail> {
-        let letter = cell(97, Part::Single, 1);
-        let left = cell(RICE, Part::Left, 2);
-        let right = cell(RICE, Part::Right, 2);
-        let bold = cell(RICE, Part::Right, 3);
-        let other = cell(RICE + 1, Part::Right, 2);
-        let undrawable = cell(RICE, Part::Right, 16);
+        let letter = TextCell::new(97, Part::Single, 1);
+        let left = TextCell::new(RICE, Part::Left, 2);
+        let right = TextCell::new(RICE, Part::Right, 2);
+        let bold = TextCell::new(RICE, Part::Right, 3);
+        let other = TextCell::new(RICE + 1, Part::Right, 2);
+        let undrawable = TextCell::new(RICE, Part::Right, 16);
         let table = [
             ([left, right, letter], [left, right, letter]),
             ([left, letter, right], [BLANK, letter, BLANK]),
@@ -180,16 +172,16 @@ mod tests {
     fn characters_make_text_cells() -> Result<(), Fail> {
         let table = [
             (0x1F, 0, (Shape::Nothing, CLEAR, CLEAR)),
-            (97, 15, (Shape::Single, cell(97, Part::Single, 15), CLEAR)),
+            (97, 15, (Shape::Single, TextCell::new(97, Part::Single, 15), CLEAR)),
             (97, 16, (Shape::Nothing, CLEAR, CLEAR)),
-            (0xE8, 0, (Shape::Single, cell(0xE8, Part::Single, 0), CLEAR)),
+            (0xE8, 0, (Shape::Single, TextCell::new(0xE8, Part::Single, 0), CLEAR)),
             (
                 RICE,
                 9,
                 (
                     Shape::Pair,
-                    cell(RICE, Part::Left, 9),
-                    cell(RICE, Part::Right, 9),
+                    TextCell::new(RICE, Part::Left, 9),
+                    TextCell::new(RICE, Part::Right, 9),
                 ),
             ),
             (RICE, 16, (Shape::Nothing, CLEAR, CLEAR)),
@@ -281,7 +273,7 @@ mod tests {
             dropped: 1,
         };
         check_eq(lay(&text, &mut row), counts)?;
-        check_eq(row, [cell(97, Part::Single, 0), cell(RICE, Part::Left, 0)])?;
+        check_eq(row, [TextCell::new(97, Part::Single, 0), TextCell::new(RICE, Part::Left, 0)])?;
         let mut bytes = [byte(0); 4];
         let counts = Laid {
             laid: 3,
@@ -294,7 +286,7 @@ mod tests {
 
     #[test]
     fn changes_are_counted_and_rows_shown(rt: LibcRuntime) -> Result<(), Fail> {
-        let raw = [cell(RICE, Part::Left, 0), cell(RICE, Part::Right, 0), CLEAR];
+        let raw = [TextCell::new(RICE, Part::Left, 0), TextCell::new(RICE, Part::Right, 0), CLEAR];
         let mut mended = raw;
         mend(&mut mended);
         check_eq(count_differing(&raw, &mended), 1)?;
