@@ -172,9 +172,17 @@ mod tests {
     fn characters_make_text_cells() -> Result<(), Fail> {
         let table = [
             (0x1F, 0, (Shape::Nothing, CLEAR, CLEAR)),
-            (97, 15, (Shape::Single, TextCell::new(97, Part::Single, 15), CLEAR)),
+            (
+                97,
+                15,
+                (Shape::Single, TextCell::new(97, Part::Single, 15), CLEAR),
+            ),
             (97, 16, (Shape::Nothing, CLEAR, CLEAR)),
-            (0xE8, 0, (Shape::Single, TextCell::new(0xE8, Part::Single, 0), CLEAR)),
+            (
+                0xE8,
+                0,
+                (Shape::Single, TextCell::new(0xE8, Part::Single, 0), CLEAR),
+            ),
             (
                 RICE,
                 9,
@@ -273,7 +281,13 @@ mod tests {
             dropped: 1,
         };
         check_eq(lay(&text, &mut row), counts)?;
-        check_eq(row, [TextCell::new(97, Part::Single, 0), TextCell::new(RICE, Part::Left, 0)])?;
+        check_eq(
+            row,
+            [
+                TextCell::new(97, Part::Single, 0),
+                TextCell::new(RICE, Part::Left, 0),
+            ],
+        )?;
         let mut bytes = [byte(0); 4];
         let counts = Laid {
             laid: 3,
@@ -286,7 +300,11 @@ mod tests {
 
     #[test]
     fn changes_are_counted_and_rows_shown(rt: LibcRuntime) -> Result<(), Fail> {
-        let raw = [TextCell::new(RICE, Part::Left, 0), TextCell::new(RICE, Part::Right, 0), CLEAR];
+        let raw = [
+            TextCell::new(RICE, Part::Left, 0),
+            TextCell::new(RICE, Part::Right, 0),
+            CLEAR,
+        ];
         let mut mended = raw;
         mend(&mut mended);
         check_eq(count_differing(&raw, &mended), 1)?;
