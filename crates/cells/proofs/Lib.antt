@@ -1,3 +1,3 @@
--- Lemmas that several proofs of this crate, and of the crates above, cite.
+-- Lemmas that several proofs of this crate and of those above cite.
 pub mod Places
 pub mod Mending

@@ -5,7 +5,7 @@ ghost use Rattle.cells.specs.Rows.{paired, stays, mended-cell, mended, ByColum
 use crate::kinds::TerminalCell;
 
 // The cell at a column, none past the row's end.
-fn cell_at<C: Copy>(row: &[C], column: usize) -> Option<C>
+pub fn cell_at<C: Copy>(row: &[C], column: usize) -> Option<C>
     ensures { λ r. ⌜ r ≡ nth (now (row .entry)) column ⌝ }
 {
     if column < row.len() {

@@ -1,0 +1,3 @@
+// Grids of cells over memory that the caller holds, and the put rule.
+pub mod grids;
+mod putting;

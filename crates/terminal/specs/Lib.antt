@@ -1,0 +1,3 @@
+-- What the contracts of every terminal cite.
+pub mod Meanings
+pub mod Operations

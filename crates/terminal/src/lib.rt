@@ -1,0 +1,3 @@
+// What a terminal means, and the interface that every terminal keeps.
+pub mod spots;
+pub mod terminals;
