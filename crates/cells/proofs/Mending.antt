@@ -13,8 +13,8 @@ use Rattle.std.specs.declared.option.Option.the-variants.{Some, None}
 use Rattle.std.proofs.shelf.Counted.{length-map-counting, getD-map-counting}
 use Rattle.std.proofs.shelf.Lists.{same-lists}
 use Rattle.std.proofs.shelf.Maps.{nth-getD}
-use Rattle.std.proofs.shelf.Tests.{both-ways, cases-bool, or-cases, or-left, or-right, cond-true, cond-false}
-use Rattle.cells.specs.Kinds.{Layer, Glyph}
+use Rattle.std.proofs.shelf.Tests.{both-ways, cases-bool, or-cases, or-left, or-right, and-from, cond-true, cond-false}
+use Rattle.cells.specs.Kinds.{Layer, Glyph, Lawful}
 use Rattle.cells.specs.Rows.{before, after, paired, stays, mended-cell, mended-at, mended, ByColumn, Whole}
 use Rattle.cells.proofs.Places.{nth-within, nth-value, nth-over, over-more}
 
@@ -24,14 +24,14 @@ cond-same false x = refl
 
 module _ {C : Type 0} (l : Layer C) (g : Glyph C) where
   -- the three reasons for which a cell stays
-  whole-stays : (left : Option C) (c : C) (right : Option C) → (g .drawable c && g .single c) ≡ true → stays g left c right ≡ true
+  pub whole-stays : (left : Option C) (c : C) (right : Option C) → (g .drawable c && g .single c) ≡ true → stays g left c right ≡ true
   whole-stays left c right h = or-left (g .drawable c && g .single c) (paired g (Some c) right || paired g left (Some c)) h
 
-  left-half-stays : (left : Option C) (c : C) (right : Option C) → paired g (Some c) right ≡ true → stays g left c right ≡ true
+  pub left-half-stays : (left : Option C) (c : C) (right : Option C) → paired g (Some c) right ≡ true → stays g left c right ≡ true
   left-half-stays left c right h =
       or-right (g .drawable c && g .single c) (paired g (Some c) right || paired g left (Some c)) (or-left (paired g (Some c) right) (paired g left (Some c)) h)
 
-  right-half-stays : (left : Option C) (c : C) (right : Option C) → paired g left (Some c) ≡ true → stays g left c right ≡ true
+  pub right-half-stays : (left : Option C) (c : C) (right : Option C) → paired g left (Some c) ≡ true → stays g left c right ≡ true
   right-half-stays left c right h =
       or-right (g .drawable c && g .single c) (paired g (Some c) right || paired g left (Some c)) (or-right (paired g (Some c) right) (paired g left (Some c)) h)
 
@@ -106,3 +106,22 @@ module _ {C : Type 0} (l : Layer C) (g : Glyph C) where
         let next : right ≡ after row k = rw e at r ∙ nth-over k (mended l g row) row long (k + 1) (omega arith) ∙ ap (nth row) (add-one k) in
         let made : nth (mended l g row) k ≡ Some new = nth-mended row k c here ∙ sym (ap Some (n ∙ ap (λ (o : Option C). mended-cell l g o c right) f ∙ ap (mended-cell l g (before row k) c) next)) in
         (over-more (mended l g row) row now k new long e made, rw add-one (sym here))
+
+  -- a row is whole just if every cell of it stays
+  pub whole-from-stays : (row : List C) → ((k : ℕ) (c : C) → nth row k ≡ Some c → stays g (before row k) c (after row k) ≡ true) → Whole l g row
+  whole-from-stays row all =
+      same-lists _ _ (length-mended row)
+      (λ k d h. let within : k < length row = omega (arith, length-mended row) in
+      let e = nth-getD row k d within in
+      nth-value _ k (getD row k d) d (nth-mended row k (getD row k d) e ∙ ap Some (cond-true _ (getD row k d) (l .blank) (all k (getD row k d) e))))
+
+  pub stays-from-whole : Lawful l g → (row : List C) → Whole l g row → (k : ℕ) (c : C) → nth row k ≡ Some c → stays g (before row k) c (after row k) ≡ true
+  stays-from-whole laws row whole k c e =
+      elim (cases-bool (stays g (before row k) c (after row k))) [
+        | inl t ↦ t
+        | inr f ↦
+            let kept : Some c ≡ Some (mended-cell l g (before row k) c (after row k)) = sym e ∙ ap (λ (xs : List C). nth xs k) (sym whole) ∙ nth-mended row k c e in
+            let blank : Some c ≡ Some (l .blank) = kept ∙ ap Some (cond-false _ c (l .blank) f) in
+            let drawn : c ≡ l .blank = cc in
+            whole-stays (before row k) c (after row k) (rw drawn (and-from _ _ (laws .blank-drawable) (laws .blank-single)))
+      ]

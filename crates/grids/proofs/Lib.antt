@@ -2,3 +2,5 @@
 pub mod CellsPut
 pub mod PutRows
 pub mod GridRows
+pub mod WholeRows
+pub mod PutsLawful

@@ -3,3 +3,4 @@ pub mod Putting
 pub mod CellsPut
 pub mod Grids
 pub mod GridViews
+pub mod PutLaws

@@ -9,6 +9,7 @@ ghost use Rattle.std.specs.Results.{Cases};
 ghost use Rattle.faults.specs.Refusals.{fault-of};
 ghost use Rattle.grids.specs.CellsPut.{cells-in};
 ghost use Rattle.grids.specs.Grids.{fits, rows-of, row-at, put-grid};
+ghost use Rattle.grids.specs.PutLaws.{Lawfully};
 ghost use Rattle.grids.specs.GridViews.{height, width, grid-rows, put-refusal, PutInto};
 use crate::putting::Cells;
 use crate::putting::put_row;
@@ -163,6 +164,7 @@ impl<'a, C: TerminalCell> Grid<'a, C> {
     pub fn put(&mut self, row: usize, column: usize, cell: C) -> Result<(), Fault>
         ensures refusal { λ r. ⌜ fault-of r ≡ put-refusal (height (now (self .entry))) (width (now (self .entry))) row column 1 ⌝ }
         ensures effect { λ r. ⌜ Cases r (λ _. PutInto (C·LayerCell .layer) (C·TerminalCell .glyph) (now (self .entry)) (now (self .exit)) row column (cell ∷ [])) (λ _. now (self .exit) ≡ now (self .entry)) ⌝ }
+        ensures laws { λ r. ⌜ Lawfully (C·LayerCell .layer) (C·TerminalCell .glyph) (now (self .entry)) (now (self .exit)) row column (cell ∷ []) r ⌝ }
     {
         let rows = self.rows;
         let columns = self.columns;
@@ -173,6 +175,7 @@ impl<'a, C: TerminalCell> Grid<'a, C> {
     pub fn put_pair(&mut self, row: usize, column: usize, left: C, right: C) -> Result<(), Fault>
         ensures refusal { λ r. ⌜ fault-of r ≡ put-refusal (height (now (self .entry))) (width (now (self .entry))) row column 2 ⌝ }
         ensures effect { λ r. ⌜ Cases r (λ _. PutInto (C·LayerCell .layer) (C·TerminalCell .glyph) (now (self .entry)) (now (self .exit)) row column (left ∷ right ∷ [])) (λ _. now (self .exit) ≡ now (self .entry)) ⌝ }
+        ensures laws { λ r. ⌜ Lawfully (C·LayerCell .layer) (C·TerminalCell .glyph) (now (self .entry)) (now (self .exit)) row column (left ∷ right ∷ []) r ⌝ }
     {
         let rows = self.rows;
         let columns = self.columns;

@@ -145,6 +145,14 @@ pub struct Pane<'a, T> {
 }
 
 impl<'a, T: Terminal> Pane<'a, T> {
+    // A pane on any rectangle.
+    pub fn new(below: &'a mut T, area: Rectangle) -> Pane<'a, T>
+        ensures below { λ r. ⌜ now (r .below) ≡ now (below .entry) ⌝ }
+        ensures area { λ r. ⌜ r .area ≡ area ⌝ }
+    {
+        Pane { below, area }
+    }
+
     // Refuses a rectangle that is empty or not inside the terminal below.
     pub fn check(below: &mut T, area: Rectangle) -> Result<(), Fault>
         ensures refusal { λ r. ⌜ fault-of r ≡ first ((not (pane-fits (T·Terminal .meaning (now (below .entry))) area), Outside) ∷ []) ⌝ }
