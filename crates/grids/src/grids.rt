@@ -121,6 +121,19 @@ fn read_cell<C: TerminalCell>(
     }
 }
 
+// Rows and columns, none if the slice has not that size.
+fn size_of<C>(cells: &mut [C], rows: usize, columns: usize) -> (usize, usize)
+    ensures rows { λ r. ⌜ r .0 ≡ cond (fits rows columns (now (cells .entry))) rows 0 ⌝ }
+    ensures columns { λ r. ⌜ r .1 ≡ cond (fits rows columns (now (cells .entry))) columns 0 ⌝ }
+    ensures same { λ _. ⌜ now (cells .exit) ≡ now (cells .entry) ⌝ }
+{
+    if has_size(cells, rows, columns) {
+        (rows, columns)
+    } else {
+        (0, 0)
+    }
+}
+
 impl<'a, C: TerminalCell> Grid<'a, C> {
     // How many rows it has.
     pub fn rows(&mut self) -> usize
@@ -129,11 +142,8 @@ impl<'a, C: TerminalCell> Grid<'a, C> {
     {
         let rows = self.rows;
         let columns = self.columns;
-        if has_size(self.cells, rows, columns) {
-            rows
-        } else {
-            0
-        }
+        let (height, _) = size_of(self.cells, rows, columns);
+        height
     }
 
     // How many columns it has.
@@ -143,11 +153,8 @@ impl<'a, C: TerminalCell> Grid<'a, C> {
     {
         let rows = self.rows;
         let columns = self.columns;
-        if has_size(self.cells, rows, columns) {
-            columns
-        } else {
-            0
-        }
+        let (_, width) = size_of(self.cells, rows, columns);
+        width
     }
 
     // The cell at a spot, none off the grid.

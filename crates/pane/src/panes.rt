@@ -158,11 +158,10 @@ impl<'a, T: Terminal> Pane<'a, T> {
         ensures refusal { λ r. ⌜ fault-of r ≡ first ((not (pane-fits (T·Terminal .meaning (now (below .entry))) area), Outside) ∷ []) ⌝ }
         ensures same { λ _. ⌜ T·Terminal .meaning (now (below .exit)) ≡ T·Terminal .meaning (now (below .entry)) ⌝ }
     {
-        if is_fit(below, area) {
-            Ok(())
-        } else {
-            Err(Fault::Outside)
+        if !is_fit(below, area) {
+            return Err(Fault::Outside);
         }
+        Ok(())
     }
 }
 
