@@ -14,7 +14,7 @@ ghost use Rattle.lines.specs.Sending.{sent-bytes, room-of, Sent};
 ghost use Rattle.terminal.specs.Meanings.{Meaning, Sound, on-grid};
 ghost use Rattle.terminal.specs.Operations.{Move, Put, PutPair, moved-on, refusal, with-room, Accepted, Effect};
 ghost use Rattle.terminal.specs.Devices.{known};
-ghost use Rattle.dumb.specs.Dumbs.{is-size, size-refusal, is-usable, dumb-of, move-bytes, LineEmptied};
+ghost use Rattle.dumb.specs.Dumbs.{is-size, size-refusal, is-usable, dumb-of, new-meaning, move-bytes, LineEmptied};
 use byte_cells::ByteCell;
 use byte_cells::ByteLayerCell;
 use byte_cells::ByteTerminalCell;
@@ -100,5 +100,125 @@ impl<'a> Dumb<'a> {
             return Err(Fault::MemoryLength);
         }
         Ok(())
+    }
+
+    // A terminal over a grid's memory as it is found, with an empty line and an unknown cursor.
+    pub fn new(
+        cells: &'a mut [ByteCell],
+        rows: usize,
+        columns: usize,
+        line: &'a mut [u8],
+    ) -> Dumb<'a>
+        ensures cells { λ r. ⌜ r .grid .cells .now ≡ now (cells .entry) ⌝ }
+        ensures rows { λ r. ⌜ r .grid .rows ≡ rows ⌝ }
+        ensures columns { λ r. ⌜ r .grid .columns ≡ columns ⌝ }
+        ensures bytes { λ r. ⌜ r .line .bytes .now ≡ now (line .entry) ⌝ }
+        ensures sent { λ r. ⌜ r .line .sent ≡ 0 ⌝ }
+        ensures cursor { λ r. ⌜ r .cursor ≡ None ⌝ }
+        ensures tally { λ r. ⌜ r .tally ≡ 0 ⌝ }
+        ensures meaning { λ r. ⌜ dumb-of r ≡ new-meaning (now (cells .entry)) rows columns (length (now (line .entry))) ⌝ }
+    {
+        Dumb {
+            grid: Grid {
+                cells,
+                rows,
+                columns,
+            },
+            line: Line {
+                bytes: line,
+                sent: 0,
+            },
+            cursor: None,
+            tally: 0,
+        }
+    }
+
+    // Empties the line: only its room changes.
+    pub fn empty(&mut self)
+        ensures line { λ _. ⌜ LineEmptied (now (self .entry)) (now (self .exit)) ⌝ }
+        ensures meaning { λ _. ⌜ dumb-of (now (self .exit)) ≡ with-room (length (now (self .entry) .line .bytes .now)) (dumb-of (now (self .entry))) ⌝ }
+    {
+        self.line.empty();
+    }
+
+    // The byte at an index of those that were sent since the line was empty, none past them.
+    pub fn sent_byte(&mut self, index: usize) -> Option<u8>
+        ensures told { λ r. ⌜ r ≡ nth (sent-bytes (now (self .entry) .line .bytes .now) (now (self .entry) .line .sent)) index ⌝ }
+        ensures same { λ _. ⌜ now (self .exit) ≡ now (self .entry) ⌝ }
+    {
+        self.line.byte(index)
+    }
+
+    // Does the check accept its size?
+    fn is_usable(&mut self) -> bool
+        ensures told { λ r. ⌜ r ≡ is-usable (now (self .entry)) ⌝ }
+        ensures same { λ _. ⌜ now (self .exit) ≡ now (self .entry) ⌝ }
+    {
+        let rows = self.grid.rows;
+        let columns = self.grid.columns;
+        let cells = self.grid.cells.len();
+        is_size(rows, columns) && is_area(rows, columns, cells)
+    }
+
+    // Its rows and columns.
+    fn size(&mut self) -> (usize, usize)
+        ensures rows { λ r. ⌜ r .0 ≡ dumb-of (now (self .entry)) .rows ⌝ }
+        ensures columns { λ r. ⌜ r .1 ≡ dumb-of (now (self .entry)) .columns ⌝ }
+        ensures same { λ _. ⌜ now (self .exit) ≡ now (self .entry) ⌝ }
+    {
+        if self.is_usable() {
+            (self.grid.rows, self.grid.columns)
+        } else {
+            (0, 0)
+        }
+    }
+
+    // The spot that its cursor is known to be at.
+    fn spot(&mut self) -> Option<Spot>
+        ensures told { λ r. ⌜ r ≡ dumb-of (now (self .entry)) .cursor ⌝ }
+        ensures same { λ _. ⌜ now (self .exit) ≡ now (self .entry) ⌝ }
+    {
+        let (rows, columns) = self.size();
+        on_grid(rows, columns, self.cursor)
+    }
+
+    // Is there too little room for the longest code?
+    fn is_full(&mut self) -> bool
+        ensures told { λ r. ⌜ r ≡ ltb (room-of (now (self .entry) .line)) 4 ⌝ }
+        ensures same { λ _. ⌜ now (self .exit) ≡ now (self .entry) ⌝ }
+    {
+        self.line.room() < NEED
+    }
+
+    // Why moving to a spot is refused, none if it is not.
+    fn move_refusal(&mut self, row: usize, column: usize) -> Option<Fault>
+        ensures told { λ r. ⌜ r ≡ refusal byte-glyph (dumb-of (now (self .entry))) (Move row column) ⌝ }
+        ensures same { λ _. ⌜ now (self .exit) ≡ now (self .entry) ⌝ }
+    {
+        let (rows, columns) = self.size();
+        if row >= rows || column >= columns {
+            return Some(Fault::OffGrid);
+        }
+        if self.is_full() {
+            return Some(Fault::LineFull);
+        }
+        None
+    }
+
+    // Why a put is refused, none if it is not.
+    fn put_refusal(&mut self, cell: ByteCell) -> Option<Fault>
+        ensures told { λ r. ⌜ r ≡ refusal byte-glyph (dumb-of (now (self .entry))) (Put cell) ⌝ }
+        ensures same { λ _. ⌜ now (self .exit) ≡ now (self .entry) ⌝ }
+    {
+        if !cell.is_drawable() || !cell.is_single() {
+            return Some(Fault::NotDrawable);
+        }
+        if self.spot().is_none() {
+            return Some(Fault::CursorUnknown);
+        }
+        if self.is_full() {
+            return Some(Fault::LineFull);
+        }
+        None
     }
 }
