@@ -8,6 +8,7 @@ ghost use lib.ListN.{length};
 ghost use Rattle.std.specs.Finite.{nth};
 ghost use Rattle.std.specs.Results.{Cases};
 ghost use Rattle.std.specs.declared.option.Option.the-variants.{Some, None};
+ghost use Rattle.faults.specs.declared.Fault.the-variants.{NotDrawable};
 ghost use Rattle.faults.specs.Refusals.{fault-of};
 ghost use Rattle.byte_cells.specs.ByteCells.{byte-layer, byte-glyph};
 ghost use Rattle.lines.specs.Sending.{sent-bytes, room-of, Sent};
@@ -190,35 +191,107 @@ impl<'a> Dumb<'a> {
         self.line.room() < NEED
     }
 
-    // Why moving to a spot is refused, none if it is not.
-    fn move_refusal(&mut self, row: usize, column: usize) -> Option<Fault>
-        ensures told { λ r. ⌜ r ≡ refusal byte-glyph (dumb-of (now (self .entry))) (Move row column) ⌝ }
-        ensures same { λ _. ⌜ now (self .exit) ≡ now (self .entry) ⌝ }
+    // Sends the code that moves the cursor to a spot.
+    fn send_move(&mut self, row: usize, column: usize)
+        requires on { ⌜ on-grid (dumb-of (now self)) row column ≡ true ⌝ }
+        requires room { ⌜ 4 ≤ room-of (now self .line) ⌝ }
+        ensures moved { λ _. ⌜ Accepted byte-layer byte-glyph (dumb-of (now (self .entry))) (dumb-of (now (self .exit))) (Move row column) ⌝ }
+        ensures bytes { λ _. ⌜ Sent (now (self .entry) .line) (now (self .exit) .line) (move-bytes row column) ⌝ }
+    {
+        let code = move_code(row, column);
+        let _ = self.line.send(&code); // there is room, so it is accepted
+        self.cursor = Some(Spot {
+            row,
+            column,
+        });
+    }
+
+    // Sends the byte of a cell that is put at a spot, where the cursor is.
+    fn send_cell(&mut self, spot: Spot, cell: ByteCell)
+        requires cursor { ⌜ dumb-of (now self) .cursor ≡ Some spot ⌝ }
+        requires room { ⌜ 4 ≤ room-of (now self .line) ⌝ }
+        ensures put { λ _. ⌜ Accepted byte-layer byte-glyph (dumb-of (now (self .entry))) (dumb-of (now (self .exit))) (Put cell) ⌝ }
+        ensures bytes { λ _. ⌜ Sent (now (self .entry) .line) (now (self .exit) .line) (cell .byte ∷ []) ⌝ }
+    {
+        let after = next_spot(self.grid.columns, spot);
+        let _ = self.line.send(&[cell.byte]); // there is room, so it is accepted
+        let _ = self.grid.put(spot.row, spot.column, cell); // and so is a spot of the grid
+        self.cursor = after;
+        self.tally = self.tally.wrapping_add(1);
+    }
+}
+
+pub impl<'a> Terminal for Dumb<'a> as DumbTerminal {
+    type Cell = ByteCell;
+
+    ghost meaning = { dumb-of };
+
+    fn rows(&mut self) -> usize {
+        self.size().0
+    }
+
+    fn columns(&mut self) -> usize {
+        self.size().1
+    }
+
+    fn cursor(&mut self) -> Option<Spot> {
+        self.spot()
+    }
+
+    fn room(&mut self) -> usize {
+        self.line.room()
+    }
+
+    fn need(&mut self) -> usize {
+        NEED
+    }
+
+    fn tally(&mut self) -> u64 {
+        self.tally
+    }
+
+    // ESC, "=", and the row and the column, each from 32 on.
+    fn move_to(&mut self, row: usize, column: usize) -> Result<(), Fault>
+        ensures refusal { λ r. ⌜ fault-of r ≡ refusal byte-glyph (dumb-of (now (self .entry))) (Move row column) ⌝ }
+        ensures effect { λ r. ⌜ Effect byte-layer byte-glyph (dumb-of (now (self .entry))) (dumb-of (now (self .exit))) (Move row column) r ⌝ }
+        ensures bytes { λ r. ⌜ Cases r (λ _. Sent (now (self .entry) .line) (now (self .exit) .line) (move-bytes row column)) (λ _. now (self .exit) ≡ now (self .entry)) ⌝ }
     {
         let (rows, columns) = self.size();
         if row >= rows || column >= columns {
-            return Some(Fault::OffGrid);
+            return Err(Fault::OffGrid);
         }
         if self.is_full() {
-            return Some(Fault::LineFull);
+            return Err(Fault::LineFull);
         }
-        None
+        self.send_move(row, column);
+        Ok(())
     }
 
-    // Why a put is refused, none if it is not.
-    fn put_refusal(&mut self, cell: ByteCell) -> Option<Fault>
-        ensures told { λ r. ⌜ r ≡ refusal byte-glyph (dumb-of (now (self .entry))) (Put cell) ⌝ }
-        ensures same { λ _. ⌜ now (self .exit) ≡ now (self .entry) ⌝ }
+    // The byte itself.
+    fn put(&mut self, cell: ByteCell) -> Result<(), Fault>
+        ensures refusal { λ r. ⌜ fault-of r ≡ refusal byte-glyph (dumb-of (now (self .entry))) (Put cell) ⌝ }
+        ensures effect { λ r. ⌜ Effect byte-layer byte-glyph (dumb-of (now (self .entry))) (dumb-of (now (self .exit))) (Put cell) r ⌝ }
+        ensures bytes { λ r. ⌜ Cases r (λ _. Sent (now (self .entry) .line) (now (self .exit) .line) (cell .byte ∷ [])) (λ _. now (self .exit) ≡ now (self .entry)) ⌝ }
     {
         if !cell.is_drawable() || !cell.is_single() {
-            return Some(Fault::NotDrawable);
+            return Err(Fault::NotDrawable);
         }
-        if self.spot().is_none() {
-            return Some(Fault::CursorUnknown);
-        }
+        let Some(spot) = self.spot() else {
+            return Err(Fault::CursorUnknown);
+        };
         if self.is_full() {
-            return Some(Fault::LineFull);
+            return Err(Fault::LineFull);
         }
-        None
+        self.send_cell(spot, cell);
+        Ok(())
+    }
+
+    // No two bytes belong together, so this is always refused.
+    fn put_pair(&mut self, left: ByteCell, right: ByteCell) -> Result<(), Fault>
+        ensures refusal { λ r. ⌜ fault-of r ≡ refusal byte-glyph (dumb-of (now (self .entry))) (PutPair left right) ⌝ }
+        ensures effect { λ r. ⌜ Effect byte-layer byte-glyph (dumb-of (now (self .entry))) (dumb-of (now (self .exit))) (PutPair left right) r ⌝ }
+        ensures bytes { λ r. ⌜ (fault-of r ≡ Some NotDrawable) × (now (self .exit) ≡ now (self .entry)) ⌝ }
+    {
+        Err(Fault::NotDrawable)
     }
 }

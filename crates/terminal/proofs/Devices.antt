@@ -55,6 +55,11 @@ moved-known rows columns s n h =
       | inr off ↦ rw off
     ]
 
+-- a size of which a spot is on the grid is usable
+pub usable-since : (fit : Bool) (rows columns row column : ℕ) → row < cond fit rows 0 → column < cond fit columns 0 → (fit ≡ true) × (row < rows) × (column < columns)
+usable-since true rows columns row column h k = (refl, h, k)
+usable-since false rows columns row column h k = absurd (omega arith)
+
 module _ {C : Type 0} where
   pub sound-over : (fit : Bool) (t : Grid C) (cursor : Option Spot) (room need tally : ℕ) → (fit ≡ true → fitting t ≡ true) → need ≤ 4096 → Sound (over-grid fit t cursor room need tally)
   sound-over true t cursor room need tally h small =
