@@ -1,25 +1,25 @@
 -- What the dumb terminal makes of an operation that is not refused.
-use Prim.Native.Nat.{ℕ, _+_, _-_, _%_, _^_, _<_, _≤_}
-use mathlib.Core.Bool.{Bool, true, false, cond, _&&_}
+use Prim.Native.Nat.{ℕ, _+_, _%_, _^_, _<_, _≤_}
+use mathlib.Core.Bool.{Bool, true, _&&_}
 use mathlib.Core.List.{List, [], _∷_}
-use mathlib.Core.Path.{_≡_, refl, sym, ap, _∙_}
+use mathlib.Core.Path.{_≡_, ap, _∙_}
 use native.Mathlib.Omega.{arith}
 use lib.Dec.{ltb, leb}
 use lib.ListN.{length}
 use Rattle.std.specs.Results.{Cases}
-use Rattle.std.specs.declared.option.Option.{Option}
 use Rattle.std.specs.declared.option.Option.the-variants.{Some, None}
 use Rattle.std.specs.declared.result.Result.{Result}
-use Rattle.std.proofs.shelf.Tests.{and-parts, and-from, ltb-true, lt-ltb, le-ltb, le-leb, leb-true, cond-true, not-from-true}
+use Rattle.std.proofs.shelf.Tests.{and-parts, ltb-true, lt-ltb, le-ltb, le-leb, leb-true, cond-true}
 use Rattle.faults.specs.declared.Fault.{Fault}
 use Rattle.faults.specs.Refusals.{fault-of}
 use Rattle.byte_cells.specs.declared.ByteCell.{ByteCell}
 use Rattle.byte_cells.specs.ByteCells.{byte-layer, byte-glyph}
 use Rattle.grids.specs.GridViews.{fitting, height, width, put-refusal, PutInto}
+use Rattle.grids.specs.declared.grids.Grid.{Grid}
 use Rattle.lines.specs.Sending.{room-of, send-refusal, Sent}
 use Rattle.lines.specs.declared.Line.{Line}
 use Rattle.terminal.specs.Meanings.{on-grid}
-use Rattle.terminal.specs.Operations.{Move, Put, spot, moved-on, with-room, Accepted}
+use Rattle.terminal.specs.Operations.{Move, Put, spot, moved-on, Accepted}
 use Rattle.terminal.specs.Devices.{over-grid}
 use Rattle.terminal.specs.declared.spots.Spot.{Spot}
 use Rattle.terminal.proofs.Devices.{accepted, known-on, usable-since, move-over, still-usable, put-over}
@@ -65,11 +65,11 @@ module _ (d : Dumb) (s : Spot) (k : dumb-of d .cursor ≡ Some s) where
   fit = and-parts (is-size (d .grid .rows) (d .grid .columns)) (fitting (d .grid)) (at-cursor .0) .1
 
   -- so the grid takes a cell there
-  pub puts : (r : Result (Unit {0}) Fault) (P : Type 0) (Q : Fault → Type 0) → fault-of r ≡ put-refusal (height (d .grid)) (width (d .grid)) (s .row) (s .column) 1 → Cases r (λ _. P) Q → P
-  puts r P Q e c =
+  pub puts : (r : Result (Unit {0}) Fault) (u : Grid ByteCell) (cell : ByteCell) → fault-of r ≡ put-refusal (height (d .grid)) (width (d .grid)) (s .row) (s .column) 1 → Cases r (λ _. PutInto byte-layer byte-glyph (d .grid) u (s .row) (s .column) (cell ∷ [])) (λ _. u ≡ d .grid) → PutInto byte-layer byte-glyph (d .grid) u (s .row) (s .column) (cell ∷ [])
+  puts r u cell e c =
       let inside : put-refusal (height (d .grid)) (width (d .grid)) (s .row) (s .column) 1 ≡ None =
-        rw (cond-true (fitting (d .grid)) (d .grid .rows) 0 fit, cond-true (fitting (d .grid)) (d .grid .columns) 0 fit, lt-ltb (s .row) (d .grid .rows) (at-cursor .1), le-leb (s .column + 1) (d .grid .columns) (let h = at-cursor .2 in omega arith)) in
-      accepted P Q r (e ∙ inside) c
+      rw (cond-true (fitting (d .grid)) (d .grid .rows) 0 fit, cond-true (fitting (d .grid)) (d .grid .columns) 0 fit, lt-ltb (s .row) (d .grid .rows) (at-cursor .1), le-leb (s .column + 1) (d .grid .columns) (let h = at-cursor .2 in omega arith)) in
+      accepted (PutInto byte-layer byte-glyph (d .grid) u (s .row) (s .column) (cell ∷ [])) (λ _. u ≡ d .grid) r (e ∙ inside) c
 
   pub put-done : (e : Dumb) (cell : ByteCell) → Sent (d .line) (e .line) (cell .byte ∷ []) → PutInto byte-layer byte-glyph (d .grid) (e .grid) (s .row) (s .column) (cell ∷ []) → e .cursor ≡ moved-on (d .grid .columns) (Some s) 1 → e .tally ≡ (d .tally + 1) % 2 ^ 64 → Accepted byte-layer byte-glyph (dumb-of d) (dumb-of e) (Put cell)
   put-done e cell sent put after count = record {

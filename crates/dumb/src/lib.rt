@@ -12,7 +12,7 @@ ghost use Rattle.faults.specs.declared.Fault.the-variants.{NotDrawable};
 ghost use Rattle.faults.specs.Refusals.{fault-of};
 ghost use Rattle.byte_cells.specs.ByteCells.{byte-layer, byte-glyph};
 ghost use Rattle.lines.specs.Sending.{sent-bytes, room-of, Sent};
-ghost use Rattle.terminal.specs.Meanings.{Meaning, Sound, on-grid};
+ghost use Rattle.terminal.specs.Meanings.{Sound, on-grid};
 ghost use Rattle.terminal.specs.Operations.{Move, Put, PutPair, moved-on, refusal, with-room, Accepted, Effect};
 ghost use Rattle.terminal.specs.Devices.{known};
 ghost use Rattle.dumb.specs.Dumbs.{is-size, size-refusal, is-usable, dumb-of, new-meaning, move-bytes, LineEmptied};
@@ -125,10 +125,7 @@ impl<'a> Dumb<'a> {
                 rows,
                 columns,
             },
-            line: Line {
-                bytes: line,
-                sent: 0,
-            },
+            line: Line::new(line),
             cursor: None,
             tally: 0,
         }
@@ -140,6 +137,14 @@ impl<'a> Dumb<'a> {
         ensures meaning { λ _. ⌜ dumb-of (now (self .exit)) ≡ with-room (length (now (self .entry) .line .bytes .now)) (dumb-of (now (self .entry))) ⌝ }
     {
         self.line.empty();
+    }
+
+    // How many bytes were sent since the line was empty.
+    pub fn sent(&mut self) -> usize
+        ensures told { λ r. ⌜ r ≡ now (self .entry) .line .sent ⌝ }
+        ensures same { λ _. ⌜ now (self .exit) ≡ now (self .entry) ⌝ }
+    {
+        self.line.sent
     }
 
     // The byte at an index of those that were sent since the line was empty, none past them.
@@ -200,10 +205,7 @@ impl<'a> Dumb<'a> {
     {
         let code = move_code(row, column);
         let _ = self.line.send(&code); // there is room, so it is accepted
-        self.cursor = Some(Spot {
-            row,
-            column,
-        });
+        self.cursor = Some(Spot { row, column });
     }
 
     // Sends the byte of a cell that is put at a spot, where the cursor is.
@@ -226,28 +228,53 @@ pub impl<'a> Terminal for Dumb<'a> as DumbTerminal {
 
     ghost meaning = { dumb-of };
 
-    fn rows(&mut self) -> usize {
+    fn rows(&mut self) -> usize
+        ensures told { λ r. ⌜ r ≡ dumb-of (now (self .entry)) .rows ⌝ }
+        ensures same { λ _. ⌜ dumb-of (now (self .exit)) ≡ dumb-of (now (self .entry)) ⌝ }
+        ensures sound { λ _. ⌜ Sound (dumb-of (now (self .entry))) ⌝ }
+        ensures unchanged { λ _. ⌜ now (self .exit) ≡ now (self .entry) ⌝ }
+    {
         self.size().0
     }
 
-    fn columns(&mut self) -> usize {
+    fn columns(&mut self) -> usize
+        ensures told { λ r. ⌜ r ≡ dumb-of (now (self .entry)) .columns ⌝ }
+        ensures same { λ _. ⌜ dumb-of (now (self .exit)) ≡ dumb-of (now (self .entry)) ⌝ }
+        ensures unchanged { λ _. ⌜ now (self .exit) ≡ now (self .entry) ⌝ }
+    {
         self.size().1
     }
 
-    fn cursor(&mut self) -> Option<Spot> {
-        self.spot()
+    fn cursor(&mut self) -> Option<Spot>
+        ensures told { λ r. ⌜ r ≡ dumb-of (now (self .entry)) .cursor ⌝ }
+        ensures same { λ _. ⌜ dumb-of (now (self .exit)) ≡ dumb-of (now (self .entry)) ⌝ }
+        ensures unchanged { λ _. ⌜ now (self .exit) ≡ now (self .entry) ⌝ }
+    {
+        self.spot() // known only on the grid
     }
 
-    fn room(&mut self) -> usize {
-        self.line.room()
+    fn room(&mut self) -> usize
+        ensures told { λ r. ⌜ r ≡ dumb-of (now (self .entry)) .room ⌝ }
+        ensures same { λ _. ⌜ dumb-of (now (self .exit)) ≡ dumb-of (now (self .entry)) ⌝ }
+        ensures unchanged { λ _. ⌜ now (self .exit) ≡ now (self .entry) ⌝ }
+    {
+        self.line.room() // in bytes
     }
 
-    fn need(&mut self) -> usize {
+    fn need(&mut self) -> usize
+        ensures told { λ r. ⌜ r ≡ dumb-of (now (self .entry)) .need ⌝ }
+        ensures same { λ _. ⌜ dumb-of (now (self .exit)) ≡ dumb-of (now (self .entry)) ⌝ }
+        ensures unchanged { λ _. ⌜ now (self .exit) ≡ now (self .entry) ⌝ }
+    {
         NEED
     }
 
-    fn tally(&mut self) -> u64 {
-        self.tally
+    fn tally(&mut self) -> u64
+        ensures told { λ r. ⌜ r ≡ dumb-of (now (self .entry)) .tally ⌝ }
+        ensures same { λ _. ⌜ dumb-of (now (self .exit)) ≡ dumb-of (now (self .entry)) ⌝ }
+        ensures unchanged { λ _. ⌜ now (self .exit) ≡ now (self .entry) ⌝ }
+    {
+        self.tally // modulo 2 ^ 64
     }
 
     // ESC, "=", and the row and the column, each from 32 on.
@@ -290,8 +317,8 @@ pub impl<'a> Terminal for Dumb<'a> as DumbTerminal {
     fn put_pair(&mut self, left: ByteCell, right: ByteCell) -> Result<(), Fault>
         ensures refusal { λ r. ⌜ fault-of r ≡ refusal byte-glyph (dumb-of (now (self .entry))) (PutPair left right) ⌝ }
         ensures effect { λ r. ⌜ Effect byte-layer byte-glyph (dumb-of (now (self .entry))) (dumb-of (now (self .exit))) (PutPair left right) r ⌝ }
-        ensures bytes { λ r. ⌜ (fault-of r ≡ Some NotDrawable) × (now (self .exit) ≡ now (self .entry)) ⌝ }
+        ensures refused { λ r. ⌜ (fault-of r ≡ Some NotDrawable) × (now (self .exit) ≡ now (self .entry)) ⌝ }
     {
-        Err(Fault::NotDrawable)
+        Err(Fault::NotDrawable) // whatever the cells are
     }
 }

@@ -15,4 +15,5 @@ returns c =
       same = ap dumb-of (c .size .ensures .same);
       sound =
           sound-over (is-usable d) (d .grid) (d .cursor) (room-of (d .line)) 4 (d .tally) (λ h. and-parts (is-size (d .grid .rows) (d .grid .columns)) (fitting (d .grid)) h .1) (omega arith);
+      unchanged = c .size .ensures .same;
     }
