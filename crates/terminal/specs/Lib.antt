@@ -1,3 +1,4 @@
 -- What the contracts of every terminal cite.
 pub mod Meanings
 pub mod Operations
+pub mod Devices

@@ -1,0 +1,2 @@
+-- What the contracts of this crate and of the terminals cite.
+pub mod Sending

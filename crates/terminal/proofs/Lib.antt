@@ -1,0 +1,2 @@
+-- Lemmas that the proofs of every terminal can cite.
+pub mod Devices
