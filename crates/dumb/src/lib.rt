@@ -266,7 +266,7 @@ pub impl<'a> Terminal for Dumb<'a> as DumbTerminal {
         ensures same { λ _. ⌜ dumb-of (now (self .exit)) ≡ dumb-of (now (self .entry)) ⌝ }
         ensures unchanged { λ _. ⌜ now (self .exit) ≡ now (self .entry) ⌝ }
     {
-        NEED
+        NEED // the code of a move
     }
 
     fn tally(&mut self) -> u64
