@@ -80,8 +80,11 @@ continue-sequence (Second r n) b =
 continue-sequence (Attributes a) b = cond (eqb b 59) (in-sequence (More a)) (cond (eqb b 109) (completes (SetPen a)) dropped)
 continue-sequence (More a) b = attribute a b
 
+abbrev pub begin-sequence : Step
+begin-sequence = in-sequence Escape
+
 -- the whole table; 0x1B is ESC
 abbrev pub stepped : State → ℕ → Step
-stepped Plain b = cond (eqb b 0x1B) (in-sequence Escape) (begin-character b)
+stepped Plain b = cond (eqb b 0x1B) begin-sequence (begin-character b)
 stepped (InSequence s) b = continue-sequence s b
 stepped (InCharacter g) b = continue-character g b

@@ -1,6 +1,6 @@
 // What the reader makes of a byte, by where it stands.
 ghost use mathlib.Core.Path.{_≡_};
-ghost use Rattle.reader.specs.Steps.{gathers, in-sequence, begin-character, continue-character, continue-sequence, stepped};
+ghost use Rattle.reader.specs.Steps.{gathers, in-sequence, begin-character, continue-character, continue-sequence, begin-sequence};
 use crate::states::Action;
 use crate::states::Gathered;
 use crate::states::Sequence;
@@ -26,7 +26,7 @@ fn gather(bits: u32, left: u8, low: u8, high: u8) -> (State, Action)
 }
 
 // The first byte of a character.
-fn begin_character(byte: u8) -> (State, Action)
+pub fn begin_character(byte: u8) -> (State, Action)
     ensures { λ r. ⌜ r ≡ begin-character byte ⌝ }
 {
     match byte {
@@ -43,7 +43,7 @@ fn begin_character(byte: u8) -> (State, Action)
 }
 
 // A further byte of a character.
-fn continue_character(gathered: Gathered, byte: u8) -> (State, Action)
+pub fn continue_character(gathered: Gathered, byte: u8) -> (State, Action)
     ensures { λ r. ⌜ r ≡ continue-character gathered byte ⌝ }
 {
     let fits = gathered.low <= byte && byte <= gathered.high && 0x80 <= byte && byte <= 0xBF;
@@ -66,7 +66,7 @@ fn go_on(sequence: Sequence) -> (State, Action)
 }
 
 // A further byte of a sequence.
-fn continue_sequence(sequence: Sequence, byte: u8) -> (State, Action)
+pub fn continue_sequence(sequence: Sequence, byte: u8) -> (State, Action)
     ensures { λ r. ⌜ r ≡ continue-sequence sequence byte ⌝ }
 {
     match (sequence, byte) {
@@ -97,14 +97,9 @@ fn continue_sequence(sequence: Sequence, byte: u8) -> (State, Action)
     }
 }
 
-// What a byte makes of the state, and what it completes.
-pub fn step(state: State, byte: u8) -> (State, Action)
-    ensures { λ r. ⌜ r ≡ stepped state byte ⌝ }
+// The byte ESC begins a sequence.
+pub fn begin_sequence() -> (State, Action)
+    ensures { λ r. ⌜ r ≡ begin-sequence ⌝ }
 {
-    match (state, byte) {
-        (State::Plain, 0x1B) => go_on(Sequence::Escape),
-        (State::Plain, _) => begin_character(byte),
-        (State::InSequence(sequence), _) => continue_sequence(sequence, byte),
-        (State::InCharacter(gathered), _) => continue_character(gathered, byte),
-    }
+    go_on(Sequence::Escape)
 }

@@ -1,0 +1,2 @@
+-- Lemmas that several proofs of this crate and of those above cite.
+pub mod Reading
