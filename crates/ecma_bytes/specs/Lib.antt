@@ -1,0 +1,4 @@
+-- What the contracts of this crate and of the terminal above cite.
+pub mod Bytes
+pub mod RoundTrip
+pub mod Codes
