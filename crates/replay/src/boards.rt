@@ -6,6 +6,7 @@ use cells::kinds::LayerCell;
 use cells::rows::mend;
 use faults::Fault;
 use pick_list::lay;
+use showing::show_row;
 use std::alloc::AllocError;
 use std::alloc::Global;
 use terminal::terminals::Terminal;
@@ -68,13 +69,4 @@ fn show_text<T: Terminal<Cell = ByteCell>>(
     let _ = lay(text, cells.as_mut_slice());
     mend(cells.as_mut_slice());
     Ok(show_row(terminal, row, cells.as_slice()).err())
-}
-
-// Shows cells in a row from its first column on, and stops at the first refusal.
-fn show_row<T: Terminal>(terminal: &mut T, row: usize, cells: &[T::Cell]) -> Result<(), Fault> {
-    terminal.move_to(row, 0)?;
-    for cell in cells {
-        terminal.put(*cell)?;
-    }
-    Ok(())
 }
