@@ -30,6 +30,7 @@ use terminal::terminals::Terminal;
 const NEED: usize = 4;
 
 // A dumb terminal over a grid and a line of the caller's. If its size is refused, it has no rows and no columns.
+#[derive(Drop)]
 pub struct Dumb<'a> {
     pub grid: Grid<'a, ByteCell>,
     pub line: Line<'a>,

@@ -18,6 +18,7 @@ use cells::rows::cell_at;
 use faults::Fault;
 
 // Rows and columns over a slice. If the slice has another length than rows × columns, the grid has no rows and no columns.
+#[derive(Drop)]
 pub struct Grid<'a, C> {
     pub cells: &'a mut [C],
     pub rows: usize,

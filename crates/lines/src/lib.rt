@@ -9,6 +9,7 @@ ghost use Rattle.lines.specs.Sending.{written, sent-bytes, room-of, send-refus
 use faults::Fault;
 
 // The memory, and how many bytes were sent into it since it was empty.
+#[derive(Drop)]
 pub struct Line<'a> {
     pub bytes: &'a mut [u8],
     pub sent: usize,

@@ -139,6 +139,7 @@ fn put_pair_in<T: Terminal>(
 }
 
 // A rectangle of the terminal below. On one that is not inside, or is empty, the pane has no rows and no columns.
+#[derive(Drop)]
 pub struct Pane<'a, T> {
     pub below: &'a mut T,
     pub area: Rectangle,

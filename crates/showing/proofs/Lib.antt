@@ -1,0 +1,2 @@
+-- Lemmas that the proofs of this crate cite.
+pub mod Cells
