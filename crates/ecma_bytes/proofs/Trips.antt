@@ -25,15 +25,15 @@ use Rattle.terminal.specs.declared.spots.Spot.{Spot}
 use Rattle.std.specs.declared.option.Option.{Option}
 use Rattle.std.specs.declared.option.Option.the-variants.{Some, None}
 use Rattle.ecma_bytes.proofs.Sizes.{up-to-15}
-use Rattle.ecma_bytes.specs.Bytes.{number, right-bytes, to-bytes, move-bytes, change-bytes, pen-bytes}
-use Rattle.ecma_bytes.specs.RoundTrip.{plain, PenTrips, MovesTrip}
+use Rattle.ecma_bytes.specs.Bytes.{number, right-bytes, to-bytes, move-bytes, change-bytes, pen-bytes, put-bytes}
+use Rattle.ecma_bytes.specs.RoundTrip.{plain, ReadsAsMove, ReadsAsCharacter}
 
 -- each sum of attributes
 change-read : (s : Screen) (a : ℕ) → a ≤ 15 → read-bytes (plain s) (change-bytes a) ≡ plain (with-pen a s)
 change-read s = up-to-15 (λ (a : ℕ). read-bytes (plain s) (change-bytes a) ≡ plain (with-pen a s)) refl refl refl refl refl refl refl refl refl refl refl refl refl refl refl refl
 
-pub pen-trips : PenTrips
-pen-trips s a h =
+pen-read : (s : Screen) (a : ℕ) → are-attributes a ≡ true → read-bytes (plain s) (pen-bytes (s .pen) a) ≡ plain (with-pen a s)
+pen-read s a h =
     elim (cases-bool (eqb (s .pen) a)) [
       | inl same ↦ rw same (ap (λ (p : ℕ). plain (with-pen p s)) (eqb-true (s .pen) a same))
       | inr other ↦ rw other (change-read s a (leb-true a 15 h))
@@ -143,8 +143,8 @@ move-from s (Some at) row column e on h k tall wide =
       | inr other ↦ rw other (to-read s row column h k tall wide)
     ]
 
-pub moves-trip : MovesTrip
-moves-trip s row column = move-from s (s .cursor) row column refl
+pub reads-as-move : (cursor : Option Spot) (row column : ℕ) (bytes : List ℕ) → bytes ≡ move-bytes cursor row column → ReadsAsMove cursor row column bytes
+reads-as-move cursor row column bytes e s at on h k tall wide = ap (read-bytes (plain s)) e ∙ move-from s cursor row column at on h k tall wide
 
 -- the first byte of a character, and those that follow
 lead-one : (c : ℕ) → 32 ≤ c → c < 128 → stepped Plain c ≡ (Plain, Show c)
@@ -234,7 +234,7 @@ module _ (s : Screen) where
       ∙ took (gathered (c / 4096 * 64 + c / 64 % 64) 1 128 191) (next c) _ (last-byte (c / 4096 * 64 + c / 64 % 64) 128 191 (c % 64) (omega arith) (omega arith) (omega arith) (omega arith))
       ∙ ap (λ (x : ℕ). shows (plain s) (make x (s .pen))) whole
 
-  pub encode-read : (c : ℕ) → 32 ≤ c → c < 65536 → (c < 55296) ⊎ (57344 ≤ c) → read-bytes (plain s) (encode c) ≡ shown c
+  encode-read : (c : ℕ) → 32 ≤ c → c < 65536 → (c < 55296) ⊎ (57344 ≤ c) → read-bytes (plain s) (encode c) ≡ shown c
   unfolding encode
   encode-read c from to scalar =
       elim (cases-lt c 128) [
@@ -245,3 +245,10 @@ module _ (s : Screen) where
               | inr three ↦ rw (le-ltb c 128 more, le-ltb c 2048 three, lt-ltb c 65536 to) (three-bytes c three to scalar)
             ]
       ]
+
+pub reads-as-character : (pen character attributes : ℕ) (bytes : List ℕ) → bytes ≡ put-bytes pen character attributes → ReadsAsCharacter pen character attributes bytes
+reads-as-character pen character attributes bytes e s same fit from to scalar =
+    ap (read-bytes (plain s)) (e ∙ ap (λ (p : ℕ). put-bytes p character attributes) (sym same))
+    ∙ read-append (plain s) (pen-bytes (s .pen) attributes) (encode character)
+    ∙ ap (λ (x : Screen). read-bytes x (encode character)) (pen-read s attributes fit)
+    ∙ encode-read (with-pen attributes s) character from to scalar

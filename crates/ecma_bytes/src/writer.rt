@@ -9,6 +9,7 @@ ghost use lib.Utf8.{encode};
 ghost use Rattle.std.specs.Options.{Cases as BySome};
 ghost use Rattle.std.specs.declared.option.Option.the-variants.{Some};
 ghost use Rattle.ecma_bytes.specs.Bytes.{digit-from, number, right-bytes, to-bytes, move-bytes, attribute-bytes, change-bytes, put-bytes};
+ghost use Rattle.ecma_bytes.specs.RoundTrip.{ReadsAsMove, ReadsAsCharacter};
 ghost use Rattle.ecma_bytes.specs.Codes.{code-bytes, Pushed};
 use crate::codes::Code;
 use crate::codes::LONGEST;
@@ -147,8 +148,8 @@ fn to_code(row: u16, column: u16) -> Code
     code
 }
 
-// The code of a move from a cursor to a spot, in the shortest form.
-pub fn move_code(cursor: Option<Spot>, row: u16, column: u16) -> Code
+// A move from a cursor to a spot, in the shortest form.
+fn shortest_move(cursor: Option<Spot>, row: u16, column: u16) -> Code
     ensures { λ r. ⌜ code-bytes r ≡ move-bytes cursor row column ⌝ }
 {
     let to = usize::from(column);
@@ -164,19 +165,36 @@ pub fn move_code(cursor: Option<Spot>, row: u16, column: u16) -> Code
     }
 }
 
-// The code that puts a character with attributes where the pen has others or the same; none for a character past 0xFFFF.
-pub fn put_code(pen: u8, character: u32, attributes: u8) -> Option<Code>
-    ensures { λ r. ⌜ BySome r (65536 ≤ character) (λ c. code-bytes c ≡ put-bytes pen character attributes) ⌝ }
+// The code of a move from a cursor to a spot. An emulator with that cursor reads it as the move.
+pub fn move_code(cursor: Option<Spot>, row: u16, column: u16) -> Code
+    ensures bytes { λ r. ⌜ code-bytes r ≡ move-bytes cursor row column ⌝ }
+    ensures read { λ r. ⌜ ReadsAsMove cursor row column (code-bytes r) ⌝ }
 {
-    if character > 0xFFFF {
-        return None;
-    }
+    shortest_move(cursor, row, column)
+}
+
+// A character with attributes, after a change of the pen if that has others.
+fn character_code(pen: u8, character: u32, attributes: u8) -> Code
+    requires { ⌜ character < 65536 ⌝ }
+    ensures { λ r. ⌜ code-bytes r ≡ put-bytes pen character attributes ⌝ }
+{
     let mut code = Code::new();
     if pen != attributes {
         code.push_change(attributes);
     }
     code.push_character(character);
-    Some(code)
+    code
+}
+
+// The code of a character with attributes, none past 0xFFFF. An emulator with that pen reads it as the character.
+pub fn put_code(pen: u8, character: u32, attributes: u8) -> Option<Code>
+    ensures bytes { λ r. ⌜ BySome r (65536 ≤ character) (λ c. code-bytes c ≡ put-bytes pen character attributes) ⌝ }
+    ensures read { λ r. ⌜ BySome r (65536 ≤ character) (λ c. ReadsAsCharacter pen character attributes (code-bytes c)) ⌝ }
+{
+    if character > 0xFFFF {
+        return None;
+    }
+    Some(character_code(pen, character, attributes))
 }
 
 // How many bytes change the pen: four, and two more for each attribute that is set.
