@@ -167,11 +167,12 @@ mod tests {
     #[test]
     fn unfit_sizes_are_refused_and_have_no_rows() -> Result<(), Fail> {
         check_eq(sized(0, 3, &mut []), (1, 0, 0))?;
-        check_eq(sized(25, 1, &mut []), (1, 0, 0))?;
-        check_eq(sized(1, 81, &mut []), (1, 0, 0))?;
+        check_eq(sized(25, 1, &mut [LETTER; 25]), (1, 0, 0))?;
+        check_eq(sized(1, 81, &mut [LETTER; 81]), (1, 0, 0))?;
         check_eq(sized(2, 3, &mut [LETTER; 5]), (15, 0, 0))?;
-        check_eq(sized(2, 3, &mut [LETTER; 6]), (0, 2, 3))?;
-        check_eq(number(Dumb::check(24, 80, 1920)), 0)
+        check_eq(sized(1, 1, &mut []), (15, 0, 0))?;
+        check_eq(sized(24, 1, &mut [LETTER; 24]), (0, 24, 1))?;
+        check_eq(sized(1, 80, &mut [LETTER; 80]), (0, 1, 80))
     }
 
     #[test]
