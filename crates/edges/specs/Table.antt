@@ -9,6 +9,7 @@ use Rattle.cells.specs.declared.kinds.Made.the-variants.{Pair}
 use Rattle.grids.specs.Putting.{put-row}
 use Rattle.terminal.specs.Meanings.{Meaning}
 use Rattle.terminal.specs.Operations.{Put, spot, perform, refusal}
+use Rattle.ecma_bytes.specs.Bytes.{move-bytes, pen-bytes}
 use Rattle.text_cells.specs.TextCells.{text, make, text-layer, text-glyph}
 use Rattle.text_cells.specs.declared.Part.the-variants.{Single}
 use Rattle.text_cells.specs.declared.TextCell.{TextCell}
@@ -53,3 +54,7 @@ pub record EdgeTable (L R : TextCell) : Type 0 where
   pub pairs-broken : put-text (L ∷ R ∷ L ∷ R ∷ []) 1 (L ∷ R ∷ []) ≡ blank ∷ L ∷ R ∷ blank ∷ []
   -- after a put in the last column the cursor is unknown, and the next put is refused
   pub past-the-end : (row : List TextCell) (room need tally : ℕ) → refusal text-glyph (perform text-layer text-glyph (six-columns row room need tally) (Put a)) (Put a) ≡ Some CursorUnknown
+  -- one column to the right is the shortest as ESC [ 1 C
+  pub next-column : move-bytes (Some (spot 4 10)) 4 11 ≡ 0x1B ∷ 0x5B ∷ 0x31 ∷ 0x43 ∷ []
+  -- from no attributes to bold and reverse
+  pub pen-changed : pen-bytes 0 9 ≡ 0x1B ∷ 0x5B ∷ 0x30 ∷ 0x3B ∷ 0x31 ∷ 0x3B ∷ 0x37 ∷ 0x6D ∷ []

@@ -25,6 +25,7 @@ use text_cells::TextTerminalCell;
 const ESC: u8 = 0x1B;
 
 // A reader of bytes on a grid of the caller's.
+#[derive(Drop)]
 pub struct Emulator<'a> {
     pub grid: Grid<'a, TextCell>,
     // where the next character goes, none if that is unknown

@@ -49,13 +49,13 @@ clear-fits-none Right w e = absurd (both-ways false refl e)
 clear-fits-none Clear w e = refl
 
 -- A half's part is known.
-left-part : (p : Part) → is-left p ≡ true → p ≡ Left
+pub left-part : (p : Part) → is-left p ≡ true → p ≡ Left
 left-part Single e = absurd (both-ways false refl e)
 left-part Left e = refl
 left-part Right e = absurd (both-ways false refl e)
 left-part Clear e = absurd (both-ways false refl e)
 
-right-part : (p : Part) → is-right p ≡ true → p ≡ Right
+pub right-part : (p : Part) → is-right p ≡ true → p ≡ Right
 right-part Single e = absurd (both-ways false refl e)
 right-part Left e = absurd (both-ways false refl e)
 right-part Right e = refl
@@ -86,7 +86,7 @@ halves c d e =
       attributes = eqb-true _ _ (m .1);
     }
 
-same-cell : (c d : TextCell) → c .character ≡ d .character → c .part ≡ d .part → c .attributes ≡ d .attributes → c ≡ d
+pub same-cell : (c d : TextCell) → c .character ≡ d .character → c .part ≡ d .part → c .attributes ≡ d .attributes → c ≡ d
 same-cell c d e f h = ap (λ (x : ℕ). text x (c .part) (c .attributes)) e ∙ ap (λ (p : Part). text (d .character) p (c .attributes)) f ∙ ap (text (d .character) (d .part)) h
 
 one-right : (c d e : TextCell) → belong c d ≡ true → belong c e ≡ true → d ≡ e

@@ -1,2 +1,3 @@
 -- Lemmas that the proofs of this crate cite.
 pub mod Laws
+pub mod Making

@@ -13,4 +13,6 @@ returns c = record {
   half-overwritten = refl;
   pairs-broken = refl;
   past-the-end = λ row room need tally. refl;
+  next-column = refl;
+  pen-changed = refl;
 }
