@@ -67,7 +67,7 @@ attribute a b =
     (cond (eqb b 53 && ltb a 4) (in-sequence (Attributes (a + 4)))
     (cond (eqb b 55 && ltb a 8) (in-sequence (Attributes (a + 8))) dropped)))
 
--- a further byte of a sequence: "[" 91, ";" 59, "C" 67, "H" 72, "m" 109
+-- a further byte of a sequence: "[" 91, ";" 59, "C" 67, "H" 72, "m" 109; after the last attribute no semicolon fits
 abbrev pub continue-sequence : Sequence → ℕ → Step
 continue-sequence Escape b = cond (eqb b 91) (in-sequence Opened) dropped
 continue-sequence Opened b = cond (eqb b 48) (in-sequence (Attributes 0)) (cond (is-first-digit b) (in-sequence (First (b - 48))) dropped)
@@ -77,7 +77,7 @@ continue-sequence (First n) b =
 continue-sequence (Parted r) b = cond (is-first-digit b) (in-sequence (Second r (b - 48))) dropped
 continue-sequence (Second r n) b =
     cond (takes-digit n b) (in-sequence (Second r (n * 10 + (b - 48)))) (cond (eqb b 72) (completes (To r n)) dropped)
-continue-sequence (Attributes a) b = cond (eqb b 59) (in-sequence (More a)) (cond (eqb b 109) (completes (SetPen a)) dropped)
+continue-sequence (Attributes a) b = cond (eqb b 59 && ltb a 8) (in-sequence (More a)) (cond (eqb b 109) (completes (SetPen a)) dropped)
 continue-sequence (More a) b = attribute a b
 
 abbrev pub begin-sequence : Step

@@ -87,7 +87,7 @@ pub fn continue_sequence(sequence: Sequence, byte: u8) -> (State, Action)
             n * 10 + u16::from(byte - b'0'),
         )),
         (Sequence::Second(row, n), b'H') => (State::Plain, Action::To(row, n)),
-        (Sequence::Attributes(set), b';') => go_on(Sequence::More(set)),
+        (Sequence::Attributes(set), b';') if set < 8 => go_on(Sequence::More(set)),
         (Sequence::Attributes(set), b'm') => (State::Plain, Action::SetPen(set)),
         (Sequence::More(set), b'1') if set < 1 => go_on(Sequence::Attributes(set + 1)),
         (Sequence::More(set), b'4') if set < 2 => go_on(Sequence::Attributes(set + 2)),
