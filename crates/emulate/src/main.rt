@@ -36,7 +36,11 @@ fn asked_size(rt: &LibcRuntime) -> Result<(usize, usize), AnyError> {
 }
 
 // The cells of a row.
-fn cells_of(heap: Global, grid: &mut Grid<'_, TextCell>, row: usize) -> Result<Vec<TextCell>, AllocError> {
+fn cells_of(
+    heap: Global,
+    grid: &mut Grid<'_, TextCell>,
+    row: usize,
+) -> Result<Vec<TextCell>, AllocError> {
     let mut cells = Vec::new(heap);
     for column in 0..grid.columns() {
         if let Some(cell) = grid.cell(row, column) {
