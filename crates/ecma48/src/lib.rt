@@ -87,6 +87,9 @@ impl<'a> Ecma48<'a> {
         columns: usize,
         line: &'a mut [u8],
     ) -> Ecma48<'a>
+        ensures cells { λ r. ⌜ r .emulator .grid .cells .now ≡ now (cells .entry) ⌝ }
+        ensures rows { λ r. ⌜ r .emulator .grid .rows ≡ rows ⌝ }
+        ensures columns { λ r. ⌜ r .emulator .grid .columns ≡ columns ⌝ }
         ensures bytes { λ r. ⌜ r .line .bytes .now ≡ now (line .entry) ⌝ }
         ensures sent { λ r. ⌜ r .line .sent ≡ 0 ⌝ }
         ensures screen { λ r. ⌜ screen-of (r .emulator) ≡ first-screen (now (cells .entry)) rows columns ⌝ }
