@@ -17,13 +17,13 @@ use Rattle.emulator.specs.Screens.{Screen, with-state, with-cursor, with-pen, s
 abbrev pub plain : Screen → Screen
 plain s = with-state Plain s
 
--- on every screen with that cursor and that spot, the bytes move the cursor there and change nothing else
+-- on every screen of at most 9999 rows and columns with that cursor and that spot, the bytes move the cursor there and change nothing else
 abbrev pub ReadsAsMove : Option Spot → ℕ → ℕ → List ℕ → Type 0
 ReadsAsMove cursor row column bytes =
     (s : Screen) → s .cursor ≡ cursor → CursorOnGrid s → row < s .rows → column < s .columns → s .rows ≤ 9999 → s .columns ≤ 9999
     → read-bytes (plain s) bytes ≡ plain (with-cursor (Some (spot row column)) s)
 
--- on every screen with that pen, the bytes set the attributes and show the character, if it is no control and no surrogate
+-- on every screen with that pen, the bytes set the attributes and show the character, if it is below 65536, no control and no surrogate
 abbrev pub ReadsAsCharacter : ℕ → ℕ → ℕ → List ℕ → Type 0
 ReadsAsCharacter pen character attributes bytes =
     (s : Screen) → s .pen ≡ pen → are-attributes attributes ≡ true → 32 ≤ character → character < 65536 → (character < 55296) ⊎ (57344 ≤ character)
