@@ -25,5 +25,5 @@ shows written p row column = covers p row column && written (spot_address p row 
 
 -- in one row of its view, of n addresses
 abbrev pub shows_row : Panel → ℕ → ℕ → ℕ → ℕ → ℕ → Bool
-shows_row p from n view-row row column =
-    in_rectangle (p.row + view-row) p.column 1 p.view.width row column && in_span from n (spot_address (Some p) row column)
+shows_row p from n view_row row column =
+    in_rectangle (p.row + view_row) p.column 1 p.view.width row column && in_span from n (spot_address (Some p) row column)

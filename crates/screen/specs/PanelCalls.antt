@@ -13,8 +13,8 @@ abbrev pub deck_with : Deck → ℕ → Panel → Deck
 deck_with d number p = record { given = slice_set d.given number (Some p); order = d.order }
 
 abbrev pub given_panel : State → ℕ → ℕ → ℕ → ℕ → ℕ → ℕ → ℕ → ℕ → State
-given_panel s number window view-row view-column height width row column =
-    with_deck s (deck_with s.deck number (record { window = window; view = part_of (area_of s.table window) view-row view-column height width; row = row; column = column }))
+given_panel s number window view_row view_column height width row column =
+    with_deck s (deck_with s.deck number (record { window = window; view = part_of (area_of s.table window) view_row view_column height width; row = row; column = column }))
 
 -- another order, and the panel's rectangle is touched
 abbrev pub reordered : State → ℕ → List ℕ → State

@@ -34,8 +34,8 @@ no_panel s number = (not (is_given s.deck number), NoPanel)
 
 -- a panel can be given a number up to 15 that is not shown
 abbrev pub panel_refusal : State → ℕ → ℕ → ℕ → ℕ → ℕ → ℕ → ℕ → ℕ → Option Fault
-panel_refusal s number window view-row view-column height width row column =
-    first ((nat_lt 15 number, NoPanel) ∷ (is_shown s.deck number, PanelShown) ∷ (part_tests s.table window view-row view-column height width ++ (not (fits_on s row column height width), OffScreen) ∷ []))
+panel_refusal s number window view_row view_column height width row column =
+    first ((nat_lt 15 number, NoPanel) ∷ (is_shown s.deck number, PanelShown) ∷ (part_tests s.table window view_row view_column height width ++ (not (fits_on s row column height width), OffScreen) ∷ []))
 
 abbrev pub show_refusal : State → ℕ → Option Fault
 show_refusal s number = first (no_panel s number ∷ (is_shown s.deck number, PanelShown) ∷ [])

@@ -29,7 +29,7 @@ module _ {C : Type 0} (l : Layer C) (g : Glyph C) (s : State) (memory : List C) 
     pub lower : (number : ℕ) → OnlyTouched (lowered_panel s number) memory
     pub relocate : (number row column : ℕ) → OnlyTouched (relocated_panel s number row column) memory
     -- a panel that is given is hidden
-    pub panel : (number window view-row view-column height width row column : ℕ) → is_shown s.deck number ≡ false → OnlyTouched (given_panel s number window view-row view-column height width row column) memory
+    pub panel : (number window view_row view_column height width row column : ℕ) → is_shown s.deck number ≡ false → OnlyTouched (given_panel s number window view_row view_column height width row column) memory
 
   -- the calls on windows
   pub record WindowCallsTouch : Type 0 where

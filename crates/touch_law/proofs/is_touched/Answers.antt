@@ -28,7 +28,7 @@ module _ {C : Type 0} (l : Layer C) (g : Glyph C) (screen : Screen) (memory : Li
     raise = only_raised l g (state_of screen) memory long;
     lower = only_lowered l g (state_of screen) memory long;
     relocate = only_relocated l g (state_of screen) memory long;
-    panel = λ number window view-row view-column height width row column hidden. only_given l g (state_of screen) memory long number _ hidden;
+    panel = λ number window view_row view_column height width row column hidden. only_given l g (state_of screen) memory long number _ hidden;
   }
 
   -- cells were written at addresses, and the spots that show them are touched
