@@ -198,10 +198,10 @@ fn replay<B: Board>(rt: &HostRuntime, board: &mut B, is_printed: bool) -> anyhow
 }
 
 // The message of a refused device.
-fn refused(heap: Global, fault: Fault, why: &str) -> Result<anyhow::Error, AllocError> {
+fn refused(fault: Fault, why: &str) -> anyhow::Error {
     let number = fault.number();
     let layer = layer_word(fault);
-    Ok(format!(in heap; "refused {number} {layer}: {why}")?.into())
+    anyhow!("refused {number} {layer}: {why}")
 }
 
 // The list on a terminal, and what that tells of itself then.
@@ -223,10 +223,9 @@ fn replay_pane<T: Terminal>(
 ) -> anyhow::Result<Outcome> {
     if let Err(fault) = Pane::check(terminal, area) {
         return Err(refused(
-            rt.alloc(),
             fault,
             "the pane has to lie inside the terminal, with a row and a column at least",
-        )?);
+        ));
     }
     replay_terminal(rt, &mut Pane::new(terminal, area), is_printed)
 }
@@ -259,11 +258,7 @@ fn replay_dumb(rt: &HostRuntime, device: Device, is_printed: bool) -> anyhow::Re
     let (rows, columns) = (device.rows, device.columns);
     let count = rows.saturating_mul(columns);
     if let Err(fault) = Dumb::check(rows, columns, count) {
-        return Err(refused(
-            heap,
-            fault,
-            "a dumb terminal has 1 to 24 rows and 1 to 80 columns",
-        )?);
+        return Err(refused(fault, "a dumb terminal has 1 to 24 rows and 1 to 80 columns"));
     }
     let mut cells = vec![in heap; ByteCell { byte: b'#' }; count]?;
     let mut line = vec![in heap; 0u8; device.line]?;
@@ -277,11 +272,7 @@ fn replay_ecma48(rt: &HostRuntime, device: Device, is_printed: bool) -> anyhow::
     let (rows, columns) = (device.rows, device.columns);
     let count = rows.saturating_mul(columns);
     if let Err(fault) = Ecma48::check(rows, columns, count) {
-        return Err(refused(
-            heap,
-            fault,
-            "an ECMA-48 terminal has 1 to 64 rows and 1 to 128 columns",
-        )?);
+        return Err(refused(fault, "an ECMA-48 terminal has 1 to 64 rows and 1 to 128 columns"));
     }
     let mut cells = vec![in heap; TextCell::new(35, Part::Single, 0); count]?;
     let mut line = vec![in heap; 0u8; device.line]?;
@@ -318,9 +309,5 @@ fn run(rt: &HostRuntime) -> anyhow::Result<()> {
 }
 
 fn main(rt: HostRuntime) -> anyhow::Result<()> {
-    let result = run(&rt);
-    if let Err(fault) = &result {
-        let _ = eprintln!(rt; "{fault}");
-    }
-    result
+    run(&rt)
 }
