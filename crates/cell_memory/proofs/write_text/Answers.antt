@@ -23,8 +23,8 @@ loop-character-preserved g c =
     let cells : List g.row.C.Denot = cells_of t a (take i text) in
     let here : new ≡ cells_for t a (get_or text i 0) = ap cells_in c.make.ensures in
     let more : cells_of t a (take (i + 1) text) ≡ cells ++ new = joined_take_more (cells_for t a) text i 0 c.loop-character-test.true ∙ ap (λ (xs : List g.row.C.Denot). cells ++ xs) (sym here) in
-    let counted = c.put-made-count.ensures.count in (
-      c.put-made-count.ensures.after ∙ ap (λ m. by_address m (written l m c.saturating_add.result new)) inv.0 ∙ written_more l memory c.args.from c.saturating_add.result cells new (omega arith) (c.saturating_add.ensures ∙ ap (λ (n : ℕ). min (c.args.from + n) (2 ^ 64 - 1)) inv.1) ∙ ap (λ xs. by_address memory (written l memory c.args.from xs)) (sym more),
+    let counted = c.put_made-count.ensures.count in (
+      c.put_made-count.ensures.after ∙ ap (λ m. by_address m (written l m c.saturating_add.result new)) inv.0 ∙ written_more l memory c.args.from c.saturating_add.result cells new (omega arith) (c.saturating_add.ensures ∙ ap (λ (n : ℕ). min (c.args.from + n) (2 ^ 64 - 1)) inv.1) ∙ ap (λ xs. by_address memory (written l memory c.args.from xs)) (sym more),
       omega (arith, ap length more, length-append cells new),
       omega (arith, two_at_most c.make.result),
     )

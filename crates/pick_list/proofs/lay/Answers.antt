@@ -21,8 +21,8 @@ loop-character-preserved g c =
     let blanks : List g.row.C.Denot = replicate (length c.loop-character.row) b in
     let here : new ≡ cells_for t (get_or text i item) = ap cells_in (c.make.ensures ∙ ap (λ (x : ℕ). t.make x 0) (c.from.ensures ∙ c.character-item.is)) in
     let more : cells_of t (take (i + 1) text) ≡ cells ++ new = joined_take_more (cells_for t) text i item h ∙ ap (λ (xs : List g.row.C.Denot). cells ++ xs) (sym here) in
-    let wide : length c.loop-character.row ≡ length c.put-made-count.new.row = omega arith in
-    let counted = c.put-made-count.ensures.count in
+    let wide : length c.loop-character.row ≡ length c.put_made-count.new.row = omega arith in
+    let counted = c.put_made-count.ensures.count in
     let nothing : nothing_of t (take (i + 1) text) ≡ c.if-count-eq0.dropped =
     elim c.if-count-eq0.branch [
       | then-count-eq0 w ↦
@@ -30,7 +30,7 @@ loop-character-preserved g c =
       | else-count-eq0 w ↦
           omega (arith, w.dropped-is, count_by_more_no (makes_nothing t) text i item h (ne_eqb _ 0 (λ e. w.if-count-eq0.false (counted ∙ ap length here ∙ e))))
     ] in (
-      over_more cells new blanks _ _ _ inv.0 inv.1 c.put-made-count.ensures.after ∙ ap (λ (xs : List g.row.C.Denot). over xs blanks) (sym more)
+      over_more cells new blanks _ _ _ inv.0 inv.1 c.put_made-count.ensures.after ∙ ap (λ (xs : List g.row.C.Denot). over xs blanks) (sym more)
           ∙ ap (λ (n : ℕ). over (cells_of t (take (i + 1) text)) (replicate n b)) wide,
       omega (arith, ap length more, length-append cells new),
       omega (arith, short c.make.result),

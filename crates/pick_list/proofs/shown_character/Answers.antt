@@ -5,4 +5,4 @@ use Rattle.pick_list.proofs.shown_character.Goals as goal
 pub returns : goal.returns
 returns c =
     ap (λ (x : ℕ). x ∷ []) c.unwrap_or.ensures
-    ∙ shows_character c.args.cell _ c.from_u32.result (sym c.if-not-is-drawable.ensures.told) (sym c.if-is-right.ensures) c.from_u32.ensures.value c.from_u32.ensures.succeeds
+    ∙ shows_character c.args.cell _ c.from_u32.result (sym c.if-not-is_drawable.ensures.told) (sym c.if-is_right.ensures) c.from_u32.ensures.value c.from_u32.ensures.succeeds

@@ -3,5 +3,5 @@ use Rattle.std.proofs.lemmas.List.{nil_from_length}
 use Rattle.replay.specs.Lines.{content_of}
 use Rattle.replay.proofs.content.Goals as goal
 
-pub returns-in-default : goal.returns-in-default
-returns-in-default c = let none = nil_from_length c.args.line.now (omega (arith, ltb-true)) in none ∙ ap content_of (sym none)
+pub returns-in_default : goal.returns-in_default
+returns-in_default c = let none = nil_from_length c.args.line.now (omega (arith, ltb-true)) in none ∙ ap content_of (sym none)

@@ -49,12 +49,12 @@ module _ {C : Type 0} (l : Layer C) (g : Glyph C) (screen : Screen) (memory : Li
         box = λ window attributes t. writes (on_edge (area_of table window)) (by_address memory (edged l g memory (area_of table window) attributes)) (edged_kept l memory g (area_of table window) attributes (window_ends w window t).wide);
       }
 
-pub returns-in-err-range : goal.returns-in-err-range
-returns-in-err-range g c =
-    let p = err_from_is_err_and c.from-residual.result c.from-residual.ensures.1 in
+pub returns-in_err-range : goal.returns-in_err-range
+returns-in_err-range g c =
+    let p = err_from_is_err_and c.from_residual.result c.from_residual.ensures.1 in
     rw (p.1, p.2)
     (record {
-      refusal = c.in-err-range.ensures.refusal;
+      refusal = c.in_err-range.ensures.refusal;
       told = tt;
       panel-calls = panels_touch g.C.LayerCell.layer g.C.TerminalCell.glyph c.args.screen.now c.args.-memory.now;
       window-calls = windows_touch g.C.LayerCell.layer g.C.TerminalCell.glyph c.args.screen.now c.args.-memory.now;
@@ -62,8 +62,8 @@ returns-in-err-range g c =
 
 pub returns : goal.returns
 returns g c = record {
-  refusal = c.in-ok-range.ensures.refusal;
-  told = c.is_inside.ensures ∙ ap (λ r. inside r c.args.column) c.in-ok-range.ensures.told;
+  refusal = c.in_ok-range.ensures.refusal;
+  told = c.is_inside.ensures ∙ ap (λ r. inside r c.args.column) c.in_ok-range.ensures.told;
   panel-calls = panels_touch g.C.LayerCell.layer g.C.TerminalCell.glyph c.args.screen.now c.args.-memory.now;
   window-calls = windows_touch g.C.LayerCell.layer g.C.TerminalCell.glyph c.args.screen.now c.args.-memory.now;
 }

@@ -9,4 +9,4 @@ returns c =
     let sent : Sent d.line c.send.new.self (c.args.cell.byte ∷ []) =
     takes c.send.result d.line c.send.new.self (c.args.cell.byte ∷ []) c.requires.room (omega arith) c.send.ensures.refusal c.send.ensures.effect in
     let put = puts d c.args.spot c.requires.cursor c.put.result c.put.new.self c.args.cell c.put.ensures.refusal c.put.ensures.effect in
-    record { put = put_done d c.args.spot c.requires.cursor _ c.args.cell sent put c.moved-on-after.ensures refl; bytes = sent }
+    record { put = put_done d c.args.spot c.requires.cursor _ c.args.cell sent put c.moved_on-after.ensures refl; bytes = sent }

@@ -10,8 +10,8 @@ use Rattle.ecma48.specs.declared.Ecma48.{Ecma48}
 use Rattle.ecma48.proofs.Operating.{cursor_known, on_screen, spoken}
 use Rattle.ecma48.proofs.Ecma48.send_pair.Goals as goal
 
-pub send-character-requires : goal.send-character-requires
-send-character-requires c = record { small = (pair_made c.args.left c.args.right c.requires.belong).shown.to; room = c.requires.room }
+pub send_character-requires : goal.send_character-requires
+send_character-requires c = record { small = (pair_made c.args.left c.args.right c.requires.belong).shown.to; room = c.requires.room }
 
 pub returns : goal.returns
 returns c =

@@ -7,4 +7,4 @@ returns c =
     (then c.push.ensures.bytes
     (then c.push-2.ensures.bytes
     (then c.push_number.ensures.bytes
-    (then c.push-3.ensures.bytes (then c.push-number-2.ensures.bytes c.push-4.ensures.bytes)))))
+    (then c.push-3.ensures.bytes (then c.push_number-2.ensures.bytes c.push-4.ensures.bytes)))))

@@ -5,7 +5,7 @@ use Rattle.pane.proofs.panes.put_in.Goals as goal
 pub returns : goal.returns
 returns g c =
     let m = g.T.Terminal.meaning c.args.below.now in
-    let k = seen c.args.area _ m.cursor (sym (ap is_some c.cursor_in.ensures.told) ∙ c.if-is-none.ensures) in
+    let k = seen c.args.area _ m.cursor (sym (ap is_some c.cursor_in.ensures.told) ∙ c.if-is_none.ensures) in
     let narrow : k.at.column - c.args.area.left + 1 ≤ c.args.area.width = omega (arith, k.column_from, k.column_to) in
     let refused = rw c.cursor_in.ensures.same at c.put.ensures.refusal in
     let effect = rw c.cursor_in.ensures.same at c.put.ensures.effect in

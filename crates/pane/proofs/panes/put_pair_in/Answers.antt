@@ -11,9 +11,9 @@ returns g c =
     let told = c.in-Some.ensures.told in
     let k = seen area _ m.cursor (sym (ap is_some told)) in
     let column : c.in-Some.spot.column ≡ k.at.column - area.left = ap column_of (told ∙ seen_at m area k) in
-    let columns : c.size-of-columns.result.1 ≡ area.width = rw c.in-Some.ensures.same at c.size-of-columns.ensures.columns ∙ columns_are m area k in
+    let columns : c.size_of-columns.result.1 ≡ area.width = rw c.in-Some.ensures.same at c.size_of-columns.ensures.columns ∙ columns_are m area k in
     let narrow : suc (k.at.column - area.left) < area.width = omega (arith, c.if-columns-spot.false) in
-    let unchanged : g.T.Terminal.meaning c.size-of-columns.new.below ≡ m = c.size-of-columns.ensures.same ∙ c.in-Some.ensures.same in
+    let unchanged : g.T.Terminal.meaning c.size_of-columns.new.below ≡ m = c.size_of-columns.ensures.same ∙ c.in-Some.ensures.same in
     let refused = rw unchanged at c.put_pair.ensures.refusal in
     let effect = rw unchanged at c.put_pair.ensures.effect in
     record {

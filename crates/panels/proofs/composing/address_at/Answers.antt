@@ -5,8 +5,8 @@ use Rattle.panels.specs.Places.{covers, is_small}
 use Rattle.panels.proofs.SmallPanels.{small_view, covered_row}
 use Rattle.panels.proofs.composing.address_at.Goals as goal
 
-pub overflow-mul-result : goal.overflow-mul-result
-overflow-mul-result c =
+pub overflow_mul-result : goal.overflow_mul-result
+overflow_mul-result c =
     let p = c.in-Some.panel in
     let e = ends_facts 65535 p.view (small_view p (ap is_small (sym c.in-Some.is) ∙ c.requires.small)) in
     let low = covered_row p c.args.row c.args.column (ap (λ q. covers q c.args.row c.args.column) (sym c.in-Some.is) ∙ c.requires.covered) in

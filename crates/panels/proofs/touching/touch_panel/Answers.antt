@@ -4,6 +4,6 @@ use Rattle.touching.proofs.TouchingLaws.{touching_none}
 use Rattle.panels.specs.Places.{shows}
 use Rattle.panels.proofs.touching.touch_panel.Goals as goal
 
-pub returns-in-default : goal.returns-in-default
-returns-in-default c =
-    touching_none c.args.touched.now _ (λ r x h. ap (λ p. shows (in_span c.args.from c.args.count) p r x) c.in-default.is)
+pub returns-in_default : goal.returns-in_default
+returns-in_default c =
+    touching_none c.args.touched.now _ (λ r x h. ap (λ p. shows (in_span c.args.from c.args.count) p r x) c.in_default.is)

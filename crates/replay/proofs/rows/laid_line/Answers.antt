@@ -8,10 +8,10 @@ returns g c =
     let text = c.args.text.now in
     let after = c.lay-laid.new.row in
     let cells = cells_of g.C.TerminalCell.glyph text in
-    let wide : length c.as_mut_slice.result.now ≡ c.args.width = c.as_mut_slice.ensures.len ∙ c.in-ok-row.ensures in
+    let wide : length c.as_mut_slice.result.now ≡ c.args.width = c.as_mut_slice.ensures.len ∙ c.in_ok-row.ensures in
     record {
       row =
-          with_items_is c.in-ok-row.row after (c.lay-laid.auto.row ∙ c.as_mut_slice.ensures.len)
+          with_items_is c.in_ok-row.row after (c.lay-laid.auto.row ∙ c.as_mut_slice.ensures.len)
           ∙ c.lay-laid.ensures.after
           ∙ ap (λ (n : ℕ). laid_row g.C.LayerCell.layer g.C.TerminalCell.glyph n text) wide;
       counted = record {

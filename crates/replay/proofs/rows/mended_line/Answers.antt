@@ -10,16 +10,16 @@ use Rattle.replay.proofs.rows.mended_line.Goals as goal
 
 pub returns : goal.returns
 returns c =
-    let row = c.in-ok-row.row in
-    let after = c.mend-counted-blanked.new.row in
-    let count = c.mend-counted-blanked.result in
+    let row = c.in_ok-row.row in
+    let after = c.mend_counted-blanked.new.row in
+    let count = c.mend_counted-blanked.result in
     let wanted : List TextCell = laid_row text_layer text_glyph c.args.width c.args.text.now in
-    let laid = c.in-ok-raw.ensures in
-    let copied : vec_items row ≡ wanted = c.in-ok-row.ensures.items ∙ c.as_slice.ensures.value ∙ laid.row in
-    let kept : vec_items (with_items row after) ≡ after = with_items_is row after (c.mend-counted-blanked.auto.row ∙ c.as_mut_slice.ensures.len) in
+    let laid = c.in_ok-raw.ensures in
+    let copied : vec_items row ≡ wanted = c.in_ok-row.ensures.items ∙ c.as_slice.ensures.value ∙ laid.row in
+    let kept : vec_items (with_items row after) ≡ after = with_items_is row after (c.mend_counted-blanked.auto.row ∙ c.as_mut_slice.ensures.len) in
     record {
-      row = kept ∙ c.mend-counted-blanked.ensures.mended ∙ ap (mended text_layer text_glyph) (c.as_mut_slice.ensures.value ∙ copied);
+      row = kept ∙ c.mend_counted-blanked.ensures.mended ∙ ap (mended text_layer text_glyph) (c.as_mut_slice.ensures.value ∙ copied);
       counted = laid.counted;
       blanked = subst (λ (xs : List TextCell). Differing wanted xs count) (sym kept)
-          (subst (λ (xs : List TextCell). Differing xs after count) (c.as-slice-2.ensures.value ∙ laid.row) c.mend-counted-blanked.ensures.counted);
+          (subst (λ (xs : List TextCell). Differing xs after count) (c.as_slice-2.ensures.value ∙ laid.row) c.mend_counted-blanked.ensures.counted);
     }

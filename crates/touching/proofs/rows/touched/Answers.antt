@@ -16,4 +16,4 @@ returns-then-columns-first c = sym (row_beyond c.args.columns c.args.first c.arg
 pub returns : goal.returns
 returns c =
     ap Some c.joined.ensures
-    ∙ sym (row_run c.args.columns c.args.first c.args.last c.saturating-sub-low.result c.min-high.result (omega arith) c.saturating-sub-low.ensures (omega arith) (omega arith) (omega arith) c.args.range c.requires)
+    ∙ sym (row_run c.args.columns c.args.first c.args.last c.saturating_sub-low.result c.min-high.result (omega arith) c.saturating_sub-low.ensures (omega arith) (omega arith) (omega arith) c.args.range c.requires)

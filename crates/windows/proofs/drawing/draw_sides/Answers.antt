@@ -6,4 +6,4 @@ loop-row-init g c = none_drawn g.C.LayerCell.layer c.args.memory.now _ c.args.ce
 
 pub loop-row-preserved : goal.loop-row-preserved
 loop-row-preserved g c =
-    sides_more g.C.LayerCell.layer c.args.memory.now c.args.area c.loop-row.row c.address-in-left.result c.address-in-right.result c.args.cell c.loop-row.memory c.fill.new.memory c.fill-in-loop-row.new.memory c.address-in-left.ensures c.address-in-right.ensures c.loop-row.invariant c.fill.ensures c.fill-in-loop-row.ensures
+    sides_more g.C.LayerCell.layer c.args.memory.now c.args.area c.loop-row.row c.address_in-left.result c.address_in-right.result c.args.cell c.loop-row.memory c.fill.new.memory c.fill-in-loop-row.new.memory c.address_in-left.ensures c.address_in-right.ensures c.loop-row.invariant c.fill.ensures c.fill-in-loop-row.ensures

@@ -10,7 +10,7 @@ loop-row-init g c = none_moved g.C.LayerCell.layer c.args.memory.now c.args.area
 pub loop-row-preserved : goal.loop-row-preserved
 loop-row-preserved g c =
     let e = ends_facts (length c.args.memory.now) c.args.area c.requires.inside in
-    c.shift.ensures ∙ moved_more g.C.LayerCell.layer c.args.memory.now c.args.area c.loop-row.row c.address-in-start.result c.loop-row.memory e.apart c.address-in-start.ensures c.loop-row.invariant
+    c.shift.ensures ∙ moved_more g.C.LayerCell.layer c.args.memory.now c.args.area c.loop-row.row c.address_in-start.result c.loop-row.memory e.apart c.address_in-start.ensures c.loop-row.invariant
 
 pub returns : goal.returns
 returns g c =

@@ -9,7 +9,7 @@ returns c = record {
       (then c.push-2.ensures.bytes
       (then c.push-3.ensures.bytes
       (then c.push_attribute.ensures.bytes
-      (then c.push-attribute-2.ensures.bytes
-      (then c.push-attribute-3.ensures.bytes (then c.push-attribute-4.ensures.bytes c.push-4.ensures.bytes))))));
+      (then c.push_attribute-2.ensures.bytes
+      (then c.push_attribute-3.ensures.bytes (then c.push_attribute-4.ensures.bytes c.push-4.ensures.bytes))))));
   length = search rules;
 }

@@ -4,6 +4,6 @@ use Rattle.ecma_bytes.proofs.codes.Code.push_number.Goals as goal
 
 pub returns : goal.returns
 returns c = record {
-  bytes = then c.push_digit.ensures.bytes (then c.push-digit-2.ensures.bytes (then c.push-digit-3.ensures.bytes c.push.ensures.bytes));
+  bytes = then c.push_digit.ensures.bytes (then c.push_digit-2.ensures.bytes (then c.push_digit-3.ensures.bytes c.push.ensures.bytes));
   length = search rules;
 }

@@ -3,8 +3,8 @@ use Rattle.orders.specs.Orders.{has, without}
 use Rattle.orders.proofs.OrderLaws.{shown_at, without_none, once_without, moved_out}
 use Rattle.orders.proofs.records.Order.hide.Goals as goal
 
-pub invariant-of-self : goal.invariant-of-self
-invariant-of-self c =
+pub invariant_of-self : goal.invariant_of-self
+invariant_of-self c =
     let o = c.args.self.now in
     let n = c.args.number in
     let found = c.in-Some.ensures in
@@ -23,5 +23,5 @@ returns-in-Some c =
     let there = shown_at o.numbers o.shown c.in-Some.place n long found.0 found.1 in
     moved_out o.numbers o.shown c.in-Some.place n long found.0 found.1 o.once c.move_to_end.new.numbers c.move_to_end.ensures
 
-pub returns-in-default : goal.returns-in-default
-returns-in-default c = sym (without_none c.args.number (take c.args.self.now.shown c.args.self.now.numbers) c.in-default.ensures)
+pub returns-in_default : goal.returns-in_default
+returns-in_default c = sym (without_none c.args.number (take c.args.self.now.shown c.args.self.now.numbers) c.in_default.ensures)

@@ -4,8 +4,8 @@ use Rattle.orders.specs.Orders.{has, without}
 use Rattle.orders.proofs.OrderLaws.{shown_at, once_raised, moved_to_end}
 use Rattle.orders.proofs.records.Order.raise.Goals as goal
 
-pub invariant-of-self : goal.invariant-of-self
-invariant-of-self c =
+pub invariant_of-self : goal.invariant_of-self
+invariant_of-self c =
     let o = c.args.self.now in
     let n = c.args.number in
     let found = c.in-Some.ensures in

@@ -14,20 +14,20 @@ room o n h none =
     omega (arith, once_room 16 n (order_of o) o.once h none)
 
 pub bounds-self-self : goal.bounds-self-self
-bounds-self-self c = room c.args.self.now c.args.number c.if-number-lt-MOST-PANELS.true (sym c.if-not-contains.ensures)
+bounds-self-self c = room c.args.self.now c.args.number c.if-number-lt-MOST_PANELS.true (sym c.if-not-contains.ensures)
 
-pub invariant-of-self : goal.invariant-of-self
-invariant-of-self c =
+pub invariant_of-self : goal.invariant_of-self
+invariant_of-self c =
     let o = c.args.self.now in
     let n = c.args.number in
-    let free = room o n c.if-number-lt-MOST-PANELS.true (sym c.if-not-contains.ensures) in
+    let free = room o n c.if-number-lt-MOST_PANELS.true (sym c.if-not-contains.ensures) in
     let is : take (o.shown + 1) (set o.numbers o.shown n) ≡ order_of o ++ n ∷ [] = take_more_set o.numbers o.shown n (omega (arith, o.sixteen)) in
-    (length-set o.numbers o.shown n ∙ o.sixteen, (omega arith, ((λ m. rw is (once_shown 16 n (order_of o) o.once c.if-number-lt-MOST-PANELS.true (sym c.if-not-contains.ensures) m)), tt)))
+    (length-set o.numbers o.shown n ∙ o.sixteen, (omega arith, ((λ m. rw is (once_shown 16 n (order_of o) o.once c.if-number-lt-MOST_PANELS.true (sym c.if-not-contains.ensures) m)), tt)))
 
 pub returns-then-not-contains : goal.returns-then-not-contains
 returns-then-not-contains c =
     let o = c.args.self.now in
     let n = c.args.number in
-    let free = room o n c.if-number-lt-MOST-PANELS.true (sym c.if-not-contains.ensures) in
-    let new : (ltb n 16 && not (has n (order_of o))) ≡ true = and_from _ _ (lt-ltb n 16 c.if-number-lt-MOST-PANELS.true) (not_from_false _ (sym c.if-not-contains.ensures)) in
+    let free = room o n c.if-number-lt-MOST_PANELS.true (sym c.if-not-contains.ensures) in
+    let new : (ltb n 16 && not (has n (order_of o))) ≡ true = and_from _ _ (lt-ltb n 16 c.if-number-lt-MOST_PANELS.true) (not_from_false _ (sym c.if-not-contains.ensures)) in
     take_more_set o.numbers o.shown n (omega (arith, o.sixteen)) ∙ sym (cond-true _ (order_of o ++ n ∷ []) (order_of o) new)

@@ -5,7 +5,7 @@ use Rattle.pane.proofs.panes.PaneTerminal.rows.Goals as goal
 
 pub returns : goal.returns
 returns g c =
-    let size = c.size-of-rows.ensures in
+    let size = c.size_of-rows.ensures in
     record {
       told = size.rows;
       same = ap (λ m. pane_of m c.args.self.now.area) size.same;

@@ -18,8 +18,8 @@ room s p place count h e =
 pub loop-place-init : goal.loop-place-init
 loop-place-init c = (refl, refl, refl, omega arith)
 
-pub note-cover-count-requires : goal.note-cover-count-requires
-note-cover-count-requires c =
+pub note_cover-count-requires : goal.note_cover-count-requires
+note_cover-count-requires c =
     let s = c.args.self.now in
     let h : c.loop-place.place < length (order_of s.order) = omega (arith, c.count-place-end.ensures) in
     record {
@@ -35,7 +35,7 @@ loop-place-preserved c =
     let h : c.loop-place.place < length order = omega (arith, c.count-place-end.ensures) in
     let inv = c.loop-place.invariant in
     let free : c.loop-place.count < length c.loop-place.list = omega (arith, inv.3, room s p c.loop-place.place c.loop-place.count h inv.0) in
-    let noted = c.note-cover-count.ensures in (
+    let noted = c.note_cover-count.ensures in (
       noted.count ∙ count_more p order c.loop-place.place c.loop-place.count c.loop-place.list c.args.list.now h inv.0 inv.1 inv.2 free,
       ap₂ take noted.count noted.list ∙ front_more p order c.loop-place.place c.loop-place.count c.loop-place.list c.args.list.now h inv.0 inv.1 inv.2 free,
       ap₂ drop noted.count noted.list ∙ rest_more p order c.loop-place.place c.loop-place.count c.loop-place.list c.args.list.now h inv.0 inv.1 inv.2 free ∙ ap (λ k. drop k c.args.list.now) (sym noted.count),

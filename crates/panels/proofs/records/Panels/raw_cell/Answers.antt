@@ -7,8 +7,8 @@ use Rattle.panels.specs.Pictures.{is_seen}
 use Rattle.panels.proofs.Tops.{topmost_holds}
 use Rattle.panels.proofs.records.Panels.raw_cell.Goals as goal
 
-pub address-at-requires : goal.address-at-requires
-address-at-requires g c =
+pub address_at-requires : goal.address_at-requires
+address_at-requires g c =
     let seen : ℕ → Bool = λ n. is_seen g.C.LayerCell.layer c.args.memory.now (panel_of (deck_of c.args.self.now) n) c.args.row c.args.column in
     let here : seen c.in-Some.number ≡ true = topmost_holds seen (order_of c.args.self.now.order) c.in-Some.number (sym c.top.ensures ∙ c.in-Some.is) in
     record {

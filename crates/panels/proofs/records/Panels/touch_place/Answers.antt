@@ -17,5 +17,5 @@ returns-in-Some c =
     (c.panel.ensures.told ∙ ap (panel_of d) (sym (place_value order c.args.place n (sym c.number.ensures ∙ c.in-Some.is))))
     c.touch_panel.ensures
 
-pub returns-in-default : goal.returns-in-default
-returns-in-default c = absurd (omega (arith, c.requires, place_past (order_of c.args.self.now.order) c.args.place (sym c.number.ensures ∙ c.in-default.is)))
+pub returns-in_default : goal.returns-in_default
+returns-in_default c = absurd (omega (arith, c.requires, place_past (order_of c.args.self.now.order) c.args.place (sym c.number.ensures ∙ c.in_default.is)))

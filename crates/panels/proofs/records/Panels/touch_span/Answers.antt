@@ -12,8 +12,8 @@ use Rattle.panels.proofs.records.Panels.touch_span.Goals as goal
 pub loop-place-init : goal.loop-place-init
 loop-place-init c = touching_none c.args.touched.now _ (λ r x h. refl)
 
-pub touch-place-requires : goal.touch-place-requires
-touch-place-requires c = omega (arith, c.count-place-end.ensures)
+pub touch_place-requires : goal.touch_place-requires
+touch_place-requires c = omega (arith, c.count-place-end.ensures)
 
 pub loop-place-preserved : goal.loop-place-preserved
 loop-place-preserved c =

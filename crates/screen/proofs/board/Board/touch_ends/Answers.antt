@@ -11,7 +11,7 @@ pub returns : goal.returns
 returns c =
     let a = c.args.area in
     record {
-      state = hits_twice (state_on c.args.self.now) (state_on c.touch_area.new.self) (state_on c.touch-area-2.new.self) (in_rows a.base a.pitch 1 a.width) (in_rows (last_row a) a.pitch 1 a.width) (on_end_row a) (λ x. ap₂ ◌||◌ (one_row a.base a.pitch a.width x) (one_row (last_row a) a.pitch a.width x)) (ap deck_of c.touch_area.ensures.panels) c.touch_area.ensures.state c.touch-area-2.ensures.state;
-      panels = c.touch-area-2.ensures.panels ∙ c.touch_area.ensures.panels;
-      windows = c.touch-area-2.ensures.windows ∙ c.touch_area.ensures.windows;
+      state = hits_twice (state_on c.args.self.now) (state_on c.touch_area.new.self) (state_on c.touch_area-2.new.self) (in_rows a.base a.pitch 1 a.width) (in_rows (last_row a) a.pitch 1 a.width) (on_end_row a) (λ x. ap₂ ◌||◌ (one_row a.base a.pitch a.width x) (one_row (last_row a) a.pitch a.width x)) (ap deck_of c.touch_area.ensures.panels) c.touch_area.ensures.state c.touch_area-2.ensures.state;
+      panels = c.touch_area-2.ensures.panels ∙ c.touch_area.ensures.panels;
+      windows = c.touch_area-2.ensures.windows ∙ c.touch_area.ensures.windows;
     }

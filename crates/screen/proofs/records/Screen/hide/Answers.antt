@@ -7,9 +7,9 @@ use Rattle.screen.proofs.records.Screen.hide.Goals as goal
 pub returns : goal.returns
 returns c =
     let s = state_of c.args.self.now in
-    let found = c.in-ok-panel.ensures in
+    let found = c.in_ok-panel.ensures in
     let n = c.args.number in
     record {
       refusal = found.refusal;
-      effect = reordered_is s _ n c.in-ok-panel.panel (without n s.deck.order) (deck_of c.hide.new.self) found.told c.hide.ensures c.touch_panel.ensures.state;
+      effect = reordered_is s _ n c.in_ok-panel.panel (without n s.deck.order) (deck_of c.hide.new.self) found.told c.hide.ensures c.touch_panel.ensures.state;
     }

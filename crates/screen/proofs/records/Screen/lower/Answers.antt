@@ -9,9 +9,9 @@ use Rattle.screen.proofs.records.Screen.lower.Goals as goal
 pub returns : goal.returns
 returns c =
     let s = state_of c.args.self.now in
-    let found = c.in-ok-panel.ensures in
+    let found = c.in_ok-panel.ensures in
     let n = c.args.number in
     record {
       refusal = found.refusal;
-      effect = reordered_is s _ n c.in-ok-panel.panel (n ∷ without n s.deck.order) (deck_of c.lower.new.self) found.told (c.lower.ensures ∙ ap (with_order s.deck) (cond-true _ (n ∷ without n s.deck.order) s.deck.order found.shown)) c.touch_panel.ensures.state;
+      effect = reordered_is s _ n c.in_ok-panel.panel (n ∷ without n s.deck.order) (deck_of c.lower.new.self) found.told (c.lower.ensures ∙ ap (with_order s.deck) (cond-true _ (n ∷ without n s.deck.order) s.deck.order found.shown)) c.touch_panel.ensures.state;
     }

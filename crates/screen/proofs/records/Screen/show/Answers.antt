@@ -10,12 +10,12 @@ use Rattle.screen.proofs.records.Screen.show.Goals as goal
 pub returns : goal.returns
 returns c =
     let s = state_of c.args.self.now in
-    let found = c.in-ok-panel.ensures in
+    let found = c.in_ok-panel.ensures in
     let n = c.args.number in
-    let hidden : is_shown s.deck n ≡ false = sym c.is_shown.ensures ∙ c.if-is-shown.false in
+    let hidden : is_shown s.deck n ≡ false = sym c.is_shown.ensures ∙ c.if-is_shown.false in
     let given : is_given s.deck n ≡ true = passed _ NoPanel [] found.refusal in
     let new : (ltb n 16 && not (is_shown s.deck n)) ≡ true = and_from _ _ (lt-ltb n 16 found.number) (not_from_false _ hidden) in
     record {
       refusal = rw (given, hidden) refl;
-      effect = reordered_is s _ n c.in-ok-panel.panel (s.deck.order ++ n ∷ []) (deck_of c.show.new.self) found.told (c.show.ensures ∙ ap (with_order s.deck) (cond-true _ (s.deck.order ++ n ∷ []) s.deck.order new)) c.touch_panel.ensures.state;
+      effect = reordered_is s _ n c.in_ok-panel.panel (s.deck.order ++ n ∷ []) (deck_of c.show.new.self) found.told (c.show.ensures ∙ ap (with_order s.deck) (cond-true _ (s.deck.order ++ n ∷ []) s.deck.order new)) c.touch_panel.ensures.state;
     }

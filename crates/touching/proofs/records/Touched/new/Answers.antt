@@ -3,8 +3,8 @@ use Rattle.std.proofs.lemmas.List.{take-replicate}
 use Rattle.touching.proofs.KeptRanges.{none_fits}
 use Rattle.touching.proofs.records.Touched.new.Goals as goal
 
-pub invariant-of-result : goal.invariant-of-result
-invariant-of-result c =
+pub invariant_of-result : goal.invariant_of-result
+invariant_of-result c =
     (ap length c.no_ranges.ensures, (omega (arith, c.min.ensures), (omega (arith, c.min-2.ensures), ((λ row. rw c.no_ranges.ensures (none_fits c.min-2.result 64 row)), tt))))
 
 pub returns : goal.returns

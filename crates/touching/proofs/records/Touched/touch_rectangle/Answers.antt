@@ -10,7 +10,7 @@ pub loop-row-preserved : goal.loop-row-preserved
 loop-row-preserved c =
     let t = c.args.self.now in
     touching_like t c.touch_run.new.self _ _
-    (λ r x h b. rectangle_more c.args.top c.args.left c.args.width c.saturating-add-last.result c.loop-row.row r x (omega arith) (λ k. omega (arith, t.wide), λ k. omega (arith, t.wide)))
+    (λ r x h b. rectangle_more c.args.top c.args.left c.args.width c.saturating_add-last.result c.loop-row.row r x (omega arith) (λ k. omega (arith, t.wide), λ k. omega (arith, t.wide)))
     (touching_then t c.loop-row.self c.touch_run.new.self _ _ c.loop-row.invariant c.touch_run.ensures)
 
 pub returns-after-loop-row : goal.returns-after-loop-row

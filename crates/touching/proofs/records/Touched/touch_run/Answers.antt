@@ -8,8 +8,8 @@ use Rattle.touching.proofs.records.Touched.touch_run.Goals as goal
 pub touched-requires : goal.touched-requires
 touched-requires c = c.args.self.now.fit c.args.row
 
-pub invariant-of-self : goal.invariant-of-self
-invariant-of-self c =
+pub invariant_of-self : goal.invariant_of-self
+invariant_of-self c =
     let t = c.args.self.now in
     (length-set t.ranges c.args.row c.touched.result ∙ t.long, (t.tall, (t.wide, (set-fits t.columns t.ranges c.args.row c.touched.result t.fit (rw c.touched.ensures (touched_fits t.columns _ (within c.args.first c.args.last))), tt))))
 

@@ -3,8 +3,8 @@ use Rattle.std.proofs.lemmas.List.{length-set, length-take-le, take_more_set}
 use Rattle.windows.proofs.AreaTables.{add_inside}
 use Rattle.windows.proofs.records.Windows.add.Goals as goal
 
-pub invariant-of-self : goal.invariant-of-self
-invariant-of-self c =
+pub invariant_of-self : goal.invariant_of-self
+invariant_of-self c =
     let w = c.args.self.now in
     (length-set w.areas w.count c.args.new ∙ w.sixteen, (omega arith, (omega arith, (w.short, (add_inside w.areas w.count w.taken c.args.taken c.args.new (omega arith) c.requires.more w.inside c.requires.inside, tt)))))
 

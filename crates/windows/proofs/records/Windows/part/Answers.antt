@@ -11,11 +11,11 @@ use Rattle.windows.proofs.records.Windows.part.Goals as goal
 pub returns : goal.returns
 returns c =
     let w = c.args.self.now in
-    let found = c.in-ok-whole.ensures in
+    let found = c.in_ok-whole.ensures in
     let t = table_of w in
     let told = found.told in
-    let whole = c.in-ok-whole.whole in
-    let held : holds_part whole c.args.row c.args.column c.args.height c.args.width ≡ true = sym c.is_inside.ensures ∙ c.if-not-is-inside.false in
+    let whole = c.in_ok-whole.whole in
+    let held : holds_part whole c.args.row c.args.column c.args.height c.args.width ≡ true = sym c.is_inside.ensures ∙ c.if-not-is_inside.false in
     let window : is_window t c.args.window ≡ true = passed _ NoWindow [] found.refusal in
     let sides : (eqb c.args.height 0 || eqb c.args.width 0) ≡ false = or_from _ _ (ne_eqb c.args.height 0 c.if-height-eq0.false) (ne_eqb c.args.width 0 c.if-width-eq0.false) in
     let inside : holds_part (area_of t c.args.window) c.args.row c.args.column c.args.height c.args.width ≡ true = ap (λ a. holds_part a c.args.row c.args.column c.args.height c.args.width) (sym told) ∙ held in
