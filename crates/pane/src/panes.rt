@@ -87,9 +87,9 @@ fn move_in<T: Terminal>(
     row: usize,
     column: usize,
 ) -> Result<(), Fault>
-    ensures refusal { fault_of result ≡ refusal Cell-as-TerminalCell.glyph (pane_of (T.Terminal.meaning below.old) area) (Move row column) }
-    ensures effect { Effect Cell-as-LayerCell.layer Cell-as-TerminalCell.glyph (pane_of (T.Terminal.meaning below.old) area) (pane_of (T.Terminal.meaning below.new) area) (Move row column) result }
-    ensures below { Effect Cell-as-LayerCell.layer Cell-as-TerminalCell.glyph (T.Terminal.meaning below.old) (T.Terminal.meaning below.new) (Move (area.top + row) (area.left + column)) result }
+    ensures refusal { fault_of result ≡ refusal T.Cell.TerminalCell.glyph (pane_of (T.Terminal.meaning below.old) area) (Move row column) }
+    ensures effect { Effect T.Cell.LayerCell.layer T.Cell.TerminalCell.glyph (pane_of (T.Terminal.meaning below.old) area) (pane_of (T.Terminal.meaning below.new) area) (Move row column) result }
+    ensures below { Effect T.Cell.LayerCell.layer T.Cell.TerminalCell.glyph (T.Terminal.meaning below.old) (T.Terminal.meaning below.new) (Move (area.top + row) (area.left + column)) result }
 {
     let (rows, columns) = size_of(below, area);
     if row >= rows || column >= columns {

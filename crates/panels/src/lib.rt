@@ -4,4 +4,4 @@ pub mod covering;
 pub mod panel;
 pub mod records;
 pub mod shown;
-pub mod touching;
+pub mod touch_calls;

@@ -14,7 +14,7 @@ fn move_in_pane<T: Terminal>(
     row: usize,
     column: usize,
 ) -> Result<(), Fault>
-    ensures { Effect Cell-as-LayerCell.layer Cell-as-TerminalCell.glyph (T.Terminal.meaning below.old) (T.Terminal.meaning below.new) (Move (area.top + row) (area.left + column)) result }
+    ensures { Effect T.Cell.LayerCell.layer T.Cell.TerminalCell.glyph (T.Terminal.meaning below.old) (T.Terminal.meaning below.new) (Move (area.top + row) (area.left + column)) result }
 {
     let mut pane = Pane::new(below, area);
     pane.move_to(row, column)

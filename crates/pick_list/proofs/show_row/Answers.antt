@@ -7,7 +7,7 @@ use Rattle.text_cells.specs.declared.TextCell.{TextCell}
 use Rattle.pick_list.specs.Showing.{shown_row}
 use Rattle.pick_list.proofs.Shown.{shown_one, shown_none}
 use Rattle.pick_list.proofs.show_row.Goals as goal
-use Rattle.pick_list.proofs.show_row.Goals.{in-Some+in-ok-push, in_default}
+use Rattle.pick_list.proofs.show_row.Goals.{in-Some+in_ok-push, in_default}
 
 pub loop-cell-preserved : goal.loop-cell-preserved
 loop-cell-preserved c =
@@ -16,7 +16,7 @@ loop-cell-preserved c =
     let h = c.loop-cell-test.true in
     let bytes = string_bytes c.loop-cell.line in
     elim c.match-shown_character.branch [
-      | in-Some+in-ok-push w ↦
+      | in-Some+in_ok-push w ↦
           ap string_bytes w.line-is ∙ w.in_ok-push.ensures.bytes
           ∙ shown_one row i (text 0 Single 0) bytes w.in-Some.character h w.in-Some.ensures c.loop-cell.invariant
       | in_default w ↦

@@ -13,19 +13,19 @@ returns-in_err-put_pair g c =
     let p = err_from_is_err_and c.from_residual.result c.from_residual.ensures.1 in
     let together = sym c.belongs_with.ensures ∙ c.if-belongs_with.true in
     let next =
-    pair_next g.Cell.TerminalCell.glyph c.args.cells.now c.loop-column.column _ _ _ c.if-column-cells.true c.index-cells-column.is c.index-cells-column-then-column-cells.is c.index-cells-column-then-belongs_with.is together in
+    pair_next g.T.Cell.TerminalCell.glyph c.args.cells.now c.loop-column.column _ _ _ c.if-column-cells.true c.index-cells-column.is c.index-cells-column-then-column-cells.is c.index-cells-column-then-belongs_with.is together in
     rw (p.1, p.2) (going_refused (rw next at c.loop-column.invariant) c.in_err-put_pair.ensures.refusal c.in_err-put_pair.ensures.effect)
 
 pub loop-column-preserved-then-belongs_with : goal.loop-column-preserved-then-belongs_with
 loop-column-preserved-then-belongs_with g c =
     let together = sym c.belongs_with.ensures ∙ c.if-belongs_with.true in
     let next =
-    pair_next g.Cell.TerminalCell.glyph c.args.cells.now c.loop-column.column _ _ _ c.if-column-cells.true c.index-cells-column.is c.index-cells-column-then-column-cells.is c.index-cells-column-then-belongs_with.is together in
+    pair_next g.T.Cell.TerminalCell.glyph c.args.cells.now c.loop-column.column _ _ _ c.if-column-cells.true c.index-cells-column.is c.index-cells-column-then-column-cells.is c.index-cells-column-then-belongs_with.is together in
     going_more (rw next at c.loop-column.invariant) c.in_ok-put_pair.ensures.effect
 
 pub returns-in_err-put : goal.returns-in_err-put
 returns-in_err-put g c =
-    let t = g.Cell.TerminalCell.glyph in
+    let t = g.T.Cell.TerminalCell.glyph in
     let cells = c.args.cells.now in
     let i = c.loop-column.column in
     let cell = c.index-cells-column.result in
@@ -40,7 +40,7 @@ returns-in_err-put g c =
 
 pub loop-column-preserved : goal.loop-column-preserved
 loop-column-preserved g c =
-    let t = g.Cell.TerminalCell.glyph in
+    let t = g.T.Cell.TerminalCell.glyph in
     let cells = c.args.cells.now in
     let i = c.loop-column.column in
     let cell = c.index-cells-column.result in

@@ -13,7 +13,7 @@ invariant_of-self c =
     let order = take o.shown o.numbers in
     let there : has n order ≡ true = shown_at o.numbers o.shown c.in-Some.place n long found.0 found.1 in
     let is : take o.shown c.move_to_end.new.numbers ≡ without n order ++ n ∷ [] = moved_to_end o.numbers o.shown c.in-Some.place n long found.0 found.1 o.once c.move_to_end.new.numbers c.move_to_end.ensures in
-    (omega (arith, o.sixteen), (omega (arith, o.few), ((λ m. rw is (once_raised 16 n order o.once there m)), tt)))
+    record { sixteen = omega (arith, o.sixteen); few = omega (arith, o.few); once = (λ m. rw is (once_raised 16 n order o.once there m)) }
 
 pub returns-in-Some : goal.returns-in-Some
 returns-in-Some c =

@@ -22,7 +22,7 @@ invariant_of-self c =
     let n = c.args.number in
     let free = room o n c.if-number-lt-MOST_PANELS.true (sym c.if-not-contains.ensures) in
     let is : take (o.shown + 1) (set o.numbers o.shown n) ≡ order_of o ++ n ∷ [] = take_more_set o.numbers o.shown n (omega (arith, o.sixteen)) in
-    (length-set o.numbers o.shown n ∙ o.sixteen, (omega arith, ((λ m. rw is (once_shown 16 n (order_of o) o.once c.if-number-lt-MOST_PANELS.true (sym c.if-not-contains.ensures) m)), tt)))
+    record { sixteen = length-set o.numbers o.shown n ∙ o.sixteen; few = omega arith; once = (λ m. rw is (once_shown 16 n (order_of o) o.once c.if-number-lt-MOST_PANELS.true (sym c.if-not-contains.ensures) m)) }
 
 pub returns-then-not-contains : goal.returns-then-not-contains
 returns-then-not-contains c =

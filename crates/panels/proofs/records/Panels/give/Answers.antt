@@ -8,7 +8,7 @@ use Rattle.panels.proofs.records.Panels.give.Goals as goal
 pub invariant_of-self : goal.invariant_of-self
 invariant_of-self c =
     let p = c.args.self.now in
-    (length-set p.given c.args.number (Some c.args.panel) ∙ p.sixteen, (set_small p.given c.args.number c.args.panel p.small (sym c.is_small.ensures ∙ c.if-is_small.true), tt))
+    record { sixteen = length-set p.given c.args.number (Some c.args.panel) ∙ p.sixteen; small = set_small p.given c.args.number c.args.panel p.small (sym c.is_small.ensures ∙ c.if-is_small.true) }
 
 pub returns-then-number-ge-MOST_PANELS : goal.returns-then-number-ge-MOST_PANELS
 returns-then-number-ge-MOST_PANELS c =

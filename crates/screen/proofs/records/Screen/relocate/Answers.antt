@@ -21,7 +21,7 @@ invariant_of-self c =
     let p = c.in_ok-panel.panel in
     let seen : AllBelow (table_of d.windows).taken (deck_of d.panels).given = λ n. rw (same.windows, same.panels) (c.args.self.now.seen n) in
     let view : ends_below (table_of d.windows).taken p.view ≡ true = rw same.windows (ap (view_below (table_of b.windows).taken) c.in_ok-panel.ensures.told ∙ c.args.self.now.seen c.args.number) in
-    (give_below (table_of d.windows).taken (deck_of d.panels) (deck_of c.give.new.self) c.args.number (moved_to p c.args.row c.args.column) seen view c.give.ensures, tt)
+    record { seen = give_below (table_of d.windows).taken (deck_of d.panels) (deck_of c.give.new.self) c.args.number (moved_to p c.args.row c.args.column) seen view c.give.ensures }
 
 pub returns : goal.returns
 returns c =

@@ -5,7 +5,7 @@ use Rattle.touching.proofs.records.Touched.new.Goals as goal
 
 pub invariant_of-result : goal.invariant_of-result
 invariant_of-result c =
-    (ap length c.no_ranges.ensures, (omega (arith, c.min.ensures), (omega (arith, c.min-2.ensures), ((λ row. rw c.no_ranges.ensures (none_fits c.min-2.result 64 row)), tt))))
+    record { long = ap length c.no_ranges.ensures; tall = omega (arith, c.min.ensures); wide = omega (arith, c.min-2.ensures); fit = (λ row. rw c.no_ranges.ensures (none_fits c.min-2.result 64 row)) }
 
 pub returns : goal.returns
 returns c = record {

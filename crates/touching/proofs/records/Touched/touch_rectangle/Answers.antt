@@ -17,7 +17,7 @@ pub returns-after-loop-row : goal.returns-after-loop-row
 returns-after-loop-row c =
     let t = c.args.self.now in
     touching_like t c.loop-row.self _ _
-    (λ r x h b. rectangle_cut c.args.top c.args.left c.args.height c.args.width t.rows c.loop-row.row r x h (omega arith) (λ k. omega (arith, t.tall)) (λ k. omega (arith, t.tall, c.loop-row.auto.row_end)))
+    (λ r x h b. rectangle_cut c.args.top c.args.left c.args.height c.args.width t.rows c.loop-row.row r x h (omega arith) (λ k. omega (arith, t.tall)) (λ k. omega (arith, t.tall, c.loop-row.auto.row-end)))
     c.loop-row.invariant
 
 pub returns-else-width-gt0 : goal.returns-else-width-gt0

@@ -11,7 +11,7 @@ touched-requires c = c.args.self.now.fit c.args.row
 pub invariant_of-self : goal.invariant_of-self
 invariant_of-self c =
     let t = c.args.self.now in
-    (length-set t.ranges c.args.row c.touched.result ∙ t.long, (t.tall, (t.wide, (set-fits t.columns t.ranges c.args.row c.touched.result t.fit (rw c.touched.ensures (touched_fits t.columns _ (within c.args.first c.args.last))), tt))))
+    record { long = length-set t.ranges c.args.row c.touched.result ∙ t.long; tall = t.tall; wide = t.wide; fit = set-fits t.columns t.ranges c.args.row c.touched.result t.fit (rw c.touched.ensures (touched_fits t.columns _ (within c.args.first c.args.last))) }
 
 pub returns-then-row-self : goal.returns-then-row-self
 returns-then-row-self c =

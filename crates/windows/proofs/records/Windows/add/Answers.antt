@@ -6,7 +6,7 @@ use Rattle.windows.proofs.records.Windows.add.Goals as goal
 pub invariant_of-self : goal.invariant_of-self
 invariant_of-self c =
     let w = c.args.self.now in
-    (length-set w.areas w.count c.args.new ∙ w.sixteen, (omega arith, (omega arith, (w.short, (add_inside w.areas w.count w.taken c.args.taken c.args.new (omega arith) c.requires.more w.inside c.requires.inside, tt)))))
+    record { sixteen = length-set w.areas w.count c.args.new ∙ w.sixteen; few = omega arith; enough = omega arith; short = w.short; inside = add_inside w.areas w.count w.taken c.args.taken c.args.new (omega arith) c.requires.more w.inside c.requires.inside }
 
 pub returns : goal.returns
 returns c =

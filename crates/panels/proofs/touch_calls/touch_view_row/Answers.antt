@@ -4,7 +4,7 @@ use Rattle.areas.proofs.AreaEnds.{ends_facts}
 use Rattle.touching.proofs.TouchingLaws.{touching_none, touching_like}
 use Rattle.panels.proofs.SmallPanels.{small_view}
 use Rattle.panels.proofs.Spans.{row_some, row_none}
-use Rattle.panels.proofs.touching.touch_view_row.Goals as goal
+use Rattle.panels.proofs.touch_calls.touch_view_row.Goals as goal
 
 pub returns-then-low-high : goal.returns-then-low-high
 returns-then-low-high c =

@@ -2,7 +2,7 @@ use Rattle.std.proofs.Common.{arith}
 use Rattle.std.proofs.lemmas.Bool.Decides.{nat_tests}
 use Rattle.touching.proofs.TouchingLaws.{touching_none, touching_then, touching_like}
 use Rattle.panels.proofs.Spans.{rows_push}
-use Rattle.panels.proofs.touching.touch_view.Goals as goal
+use Rattle.panels.proofs.touch_calls.touch_view.Goals as goal
 
 pub loop-row-init : goal.loop-row-init
 loop-row-init c = touching_none c.args.touched.now _ (λ r x h. grind (arith, nat_tests))

@@ -2,7 +2,7 @@ use Rattle.std.proofs.Common.{ap}
 use Rattle.areas.specs.Addresses.{in_span}
 use Rattle.touching.proofs.TouchingLaws.{touching_none}
 use Rattle.panels.specs.Places.{shows}
-use Rattle.panels.proofs.touching.touch_panel.Goals as goal
+use Rattle.panels.proofs.touch_calls.touch_panel.Goals as goal
 
 pub returns-in_default : goal.returns-in_default
 returns-in_default c =
