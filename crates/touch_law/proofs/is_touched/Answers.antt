@@ -56,14 +56,14 @@ returns-in_err-range g c =
     (record {
       refusal = c.in_err-range.ensures.refusal;
       told = tt;
-      panel-calls = panels_touch g.C.LayerCell.layer g.C.TerminalCell.glyph c.args.screen.now c.args.-memory.now;
-      window-calls = windows_touch g.C.LayerCell.layer g.C.TerminalCell.glyph c.args.screen.now c.args.-memory.now;
+      panel_calls = panels_touch g.C.LayerCell.layer g.C.TerminalCell.glyph c.args.screen.now c.args._memory.now;
+      window_calls = windows_touch g.C.LayerCell.layer g.C.TerminalCell.glyph c.args.screen.now c.args._memory.now;
     })
 
 pub returns : goal.returns
 returns g c = record {
   refusal = c.in_ok-range.ensures.refusal;
   told = c.is_inside.ensures ∙ ap (λ r. inside r c.args.column) c.in_ok-range.ensures.told;
-  panel-calls = panels_touch g.C.LayerCell.layer g.C.TerminalCell.glyph c.args.screen.now c.args.-memory.now;
-  window-calls = windows_touch g.C.LayerCell.layer g.C.TerminalCell.glyph c.args.screen.now c.args.-memory.now;
+  panel_calls = panels_touch g.C.LayerCell.layer g.C.TerminalCell.glyph c.args.screen.now c.args._memory.now;
+  window_calls = windows_touch g.C.LayerCell.layer g.C.TerminalCell.glyph c.args.screen.now c.args._memory.now;
 }
