@@ -1,4 +1,5 @@
 // Areas: rectangles of cells in a memory that holds the rows of larger ones one after another.
+#![tactic(auto)]
 
 // The first cell's address, how far a row's first cell is from that of the row before, and how many rows and columns there are.
 // An area of a larger one keeps its pitch.

@@ -1,15 +1,14 @@
 -- The byte cell keeps the laws of a kind for a terminal.
-use Rattle.std.specs.Prelude.{◌≡◌, ℕ, ◌<◌, ◌≤◌, Bool, true, false, cond, ◌&&◌, nat_le, refl}
-use Rattle.std.proofs.Common.{sym, ap, ◌∙◌, arith}
-use Rattle.std.proofs.lemmas.Bool.{both_ways, eqb-true, le-leb, lt-leb, cond-true, cond-false}
+use Rattle.std.specs.Prelude.{◌≡◌, ℕ, ◌≤◌, true, false, cond, nat_le, refl}
+use Rattle.std.proofs.Common.{ap, arith}
+use Rattle.std.proofs.lemmas.Bool.{both_ways, eqb-true, cond-true, cond-false}
 use Rattle.std.proofs.lemmas.Bool.Decides.{nat_tests}
 use Rattle.cells.specs.Attributes.{are_attributes}
 use Rattle.cells.specs.Widths.{width_of, within}
-use Rattle.cells.specs.Kinds.{Lawful, MadeFor, DrawableSingle}
+use Rattle.cells.specs.Kinds.{Lawful, MadeFor}
 use Rattle.cells.specs.declared.widths.Width.{Width}
 use Rattle.cells.specs.declared.widths.Width.TheVariants.{Zero, One, Two}
 use Rattle.cells.specs.declared.kinds.Made.TheVariants.{Nothing}
-use Rattle.byte_cells.specs.declared.ByteCell.{ByteCell}
 use Rattle.byte_cells.specs.ByteCells.{byte_cell, drawable, make, make_for, byte_layer, byte_glyph}
 
 -- a character of width 1 begins at 32

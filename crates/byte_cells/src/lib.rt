@@ -1,4 +1,6 @@
 // The byte cell: one byte of a terminal that shows ASCII without attributes.
+#![tactic(auto)]
+
 ghost use Rattle.byte_cells.specs.ByteCells.{byte_layer, byte_glyph};
 ghost use Rattle.std.proofs.Common.{rules};
 ghost use Rattle.byte_cells.specs.Laws;

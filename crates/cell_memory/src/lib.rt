@@ -1,4 +1,6 @@
 // Cells written into memory of the caller's, by addresses. An address past the memory's end is not written.
+#![tactic(auto)]
+
 ghost use Rattle.std.specs.Prelude.{◌≡◌, ◌+◌, ◌-◌, length, slice_index_or};
 ghost use Rattle.areas.specs.Memories.{by_address};
 ghost use Rattle.cell_memory.specs.Texts.{cells_in, cells_of};

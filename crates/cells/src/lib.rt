@@ -1,4 +1,6 @@
 // What a cell is: house widths, what a cell kind has to tell, and rows of whole characters.
+#![tactic(auto)]
+
 pub mod attributes;
 pub mod kinds;
 pub mod rows;

@@ -1,3 +1,5 @@
+#![tactic(auto)]
+
 // Tests of the cells, of both kinds, of the refusals and of the pick list on examples, in a crate of their own.
 #[cfg(test)]
 mod tests {

@@ -1,4 +1,6 @@
 // The dumb terminal: byte cells on at most 24 rows of 80 columns, and two kinds of codes, one that moves the cursor and one that shows a byte.
+#![tactic(auto)]
+
 ghost use Rattle.std.specs.Prelude.{◌≡◌, ◌<◌, ◌≤◌, true, [], ◌∷◌, length, Some, None, MatchResult, nat_lt};
 ghost use Rattle.std.specs.List.{slice_get};
 ghost use Rattle.faults.specs.declared.Fault.TheVariants.{NotDrawable};

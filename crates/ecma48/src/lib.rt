@@ -1,4 +1,6 @@
 // The ECMA-48 terminal: text cells on at most 64 rows of 128 columns, shown by its own emulator, which reads what it sends.
+#![tactic(auto)]
+
 ghost use Rattle.std.specs.Prelude.{◌≡◌, ◌+◌, ◌<◌, ◌≤◌, true, length, Some, MatchResult, nat_lt};
 ghost use Rattle.std.specs.List.{slice_get};
 ghost use Rattle.faults.specs.Refusals.{fault_of};

@@ -1,4 +1,6 @@
 // The edge cases of the rules as one table, shown by computing with the definitions that the contracts cite.
+#![tactic(auto)]
+
 ghost use Rattle.edges.specs.Table.{EdgeTable};
 
 use text_cells::{Part, TextCell};

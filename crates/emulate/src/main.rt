@@ -1,4 +1,6 @@
 // Reads bytes from standard input with the emulator of ECMA-48 and prints the screen that they leave: the rows, their attributes, cursor and pen.
+#![tactic(auto)]
+
 use anyhow::anyhow;
 use emulator::Emulator;
 use grids::grids::Grid;

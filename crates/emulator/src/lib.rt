@@ -1,4 +1,6 @@
 // The emulator: a screen that shows what the bytes sent to a terminal of ECMA-48 mean.
+#![tactic(auto)]
+
 ghost use Rattle.std.specs.Prelude.{◌≡◌, ◌<◌, [], ◌∷◌, Some};
 ghost use Rattle.reader.specs.declared.states.Action.TheVariants.{Show, Right, To};
 ghost use Rattle.emulator.specs.Screens.{read_byte, read_bytes, acts, with_state, CursorOnGrid, CompletesNothing, moved_to, right_by, put_here};

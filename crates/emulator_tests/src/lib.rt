@@ -1,3 +1,5 @@
+#![tactic(auto)]
+
 // Tests of the emulator and of the ECMA-48 terminal on examples, in a crate of their own.
 #[cfg(test)]
 mod tests {

@@ -1,4 +1,6 @@
 // The refusals of the library: each call that refuses answers one of these, with its number and layer.
+#![tactic(auto)]
+
 ghost use Rattle.std.specs.Prelude.{◌≡◌, ◌==◌};
 ghost use Rattle.faults.specs.Faults.{number_of, layer_of};
 ghost use Rattle.std.specs.Cmp.Rules.{comparing};

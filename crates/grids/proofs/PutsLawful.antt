@@ -1,5 +1,5 @@
 -- Every accepted put keeps the laws.
-use Rattle.std.proofs.Common.{◌≡◌, ℕ, suc, ◌+◌, ◌*◌, ◌<◌, ◌≤◌, Bool, true, false, cond, not, ◌&&◌, eqb, ltb, leb, ◌⊎◌, List, [], length, get_or, Some, None, Ok, Err, Result, sym, refl, ap, ◌∙◌, inl, inr, arith, MatchResult}
+use Rattle.std.proofs.Common.{◌≡◌, ℕ, suc, ◌+◌, ◌<◌, ◌≤◌, Bool, true, false, cond, ltb, leb, ◌⊎◌, List, [], length, get_or, Some, None, Ok, Err, Result, sym, refl, ap, ◌∙◌, inl, inr, arith, MatchResult}
 use Rattle.std.specs.List.{slice_get}
 use Rattle.std.proofs.lemmas.List.{get_or-set_same, get_or-set_other}
 use Rattle.std.proofs.lemmas.Option.{slice_get-get_or, slice_get_past}
@@ -8,9 +8,8 @@ use Rattle.std.proofs.lemmas.Bool.Decides.{nat_tests}
 use Rattle.faults.specs.Refusals.{fault_of}
 use Rattle.faults.specs.declared.Fault.{Fault}
 use Rattle.cells.specs.Kinds.{Layer, Glyph, Lawful}
-use Rattle.cells.specs.Rows.{Whole}
 use Rattle.put_rule.specs.Putting.{put_at, put_row}
-use Rattle.put_rule.specs.Grids.{fits, rows_of, row_at, put_grid}
+use Rattle.put_rule.specs.Grids.{rows_of, row_at, put_grid}
 use Rattle.grids.specs.GridViews.{fitting, height, width, grid_rows, put_refusal, PutInto}
 use Rattle.grids.specs.PutLaws.{PutLaws, Lawfully}
 use Rattle.grids.specs.declared.grids.Grid.{Grid}

@@ -1,4 +1,6 @@
 // A line: byte memory of the caller's that a terminal's bytes are sent into, one after another.
+#![tactic(auto)]
+
 ghost use Rattle.std.specs.Prelude.{◌≡◌, ◌+◌, ◌≤◌, length, MatchResult};
 ghost use Rattle.std.specs.List.{slice_get};
 ghost use Rattle.faults.specs.Refusals.{fault_of};

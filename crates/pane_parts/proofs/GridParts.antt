@@ -1,12 +1,10 @@
 -- The part of a grid inside a rectangle, and what a put leaves of it.
-use Rattle.std.proofs.Common.{◌≡◌, ℕ, zero, suc, ◌+◌, ◌-◌, ◌<◌, ◌≤◌, Bool, true, false, cond, ◌&&◌, ◌||◌, ltb, leb, ◌⊎◌, List, [], ◌∷◌, ◌++◌, map, length, get_or, take, drop, set, Some, None, Option, sym, refl, ap, ◌∙◌, ap₂, inl, inr, add-suc, suc-add, arith}
+use Rattle.std.proofs.Common.{◌≡◌, ℕ, zero, suc, ◌+◌, ◌-◌, ◌<◌, ◌≤◌, Bool, true, false, ◌&&◌, List, [], ◌∷◌, map, length, get_or, take, drop, set, sym, refl, ap, ◌∙◌, add-suc, suc-add, arith}
 use Rattle.std.specs.List.{slice_get}
-use Rattle.std.proofs.lemmas.List.{same_lists, length-take-le, length-drop, length-set, get_or-take, get_or-drop, get_or-map, drop-set-add, map-set, length-map}
-use Rattle.std.proofs.lemmas.Option.{slice_get-get_or, slice_get_past}
-use Rattle.std.proofs.lemmas.Bool.{cases_lt}
+use Rattle.std.proofs.lemmas.List.{same_lists, length-take-le, length-drop, get_or-take, get_or-drop, get_or-map, drop-set-add, map-set, length-map}
 use Rattle.std.proofs.lemmas.Bool.Decides.{nat_tests}
 use Rattle.cells.specs.Kinds.{Layer, Glyph}
-use Rattle.cells.specs.Rows.{before, after}
+use Rattle.cells.specs.Rows.{before}
 use Rattle.put_rule.specs.Putting.{among, holds, loses_left, loses_right, put_at, put_row}
 use Rattle.put_rule.specs.Grids.{row_at, put_grid}
 use Rattle.put_rule.proofs.PutRows.{length-put, get_or-put}

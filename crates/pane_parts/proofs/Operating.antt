@@ -1,12 +1,12 @@
 -- What an operation below means for the pane.
-use Rattle.std.proofs.Common.{◌≡◌, ℕ, suc, ◌+◌, ◌-◌, ◌<◌, ◌≤◌, Bool, true, false, cond, ◌&&◌, ltb, leb, ◌⊎◌, List, [], ◌∷◌, length, is_some, Some, None, Ok, Err, Option, Result, sym, refl, ap, ◌∙◌, ap₂, inl, inr, arith}
-use Rattle.std.proofs.lemmas.Bool.{both_ways, and_parts, and_from, leb-true, ltb-true, cases_lt, lt-ltb, le-ltb, le-leb, lt-leb, cond-true, cond-false}
+use Rattle.std.proofs.Common.{◌≡◌, ℕ, suc, ◌+◌, ◌-◌, ◌<◌, ◌≤◌, Bool, true, false, cond, ltb, leb, List, [], length, is_some, Some, None, Ok, Err, Option, Result, sym, refl, ap, ◌∙◌, ap₂, inl, inr, arith}
+use Rattle.std.proofs.lemmas.Bool.{both_ways, and_parts, and_from, leb-true, ltb-true, cases_lt, lt-ltb, le-ltb, le-leb, lt-leb, cond-true}
 use Rattle.std.proofs.lemmas.Bool.Decides.{nat_tests}
 use Rattle.faults.specs.declared.Fault.{Fault}
 use Rattle.cells.specs.Kinds.{Layer, Glyph}
 use Rattle.put_rule.specs.Grids.{row_at, put_grid}
 use Rattle.terminal.specs.Meanings.{Meaning, Sound}
-use Rattle.terminal.specs.Operations.{Operation, Put, PutPair, refusal, row_of, column_of, spot, moved_on, put_cells, perform, with_room, Accepted, Effect}
+use Rattle.terminal.specs.Operations.{Operation, Put, PutPair, refusal, row_of, column_of, spot, moved_on, put_cells, perform, with_room, Effect}
 use Rattle.terminal.specs.declared.spots.Spot.{Spot}
 use Rattle.pane_parts.specs.Panes.{fits_in, pane_fits, part, inside, seen_from, pane_rows, pane_columns, pane_of}
 use Rattle.pane_parts.specs.declared.rectangles.Rectangle.{Rectangle}

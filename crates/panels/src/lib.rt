@@ -1,4 +1,6 @@
 // Panels: rectangles of windows that lie on a screen one above the other.
+#![tactic(auto)]
+
 pub mod composing;
 pub mod covering;
 pub mod panel;

@@ -1,4 +1,6 @@
 // A pick list on a terminal: its lines laid into rows of cells, and the rows as text again.
+#![tactic(auto)]
+
 ghost use Rattle.std.specs.Prelude.{◌≡◌, ℕ, ◌-◌, ◌^◌, ◌<◌, min, length, replicate, IfOk, string_bytes, MatchOption, slice_set};
 ghost use Rattle.std.proofs.Math.Utf8.{encodes};
 ghost use Rattle.std.specs.Option.{option_to_list};

@@ -1,5 +1,5 @@
 -- A grid as its rows, over memory that holds them one after another.
-use Rattle.std.specs.Prelude.{ℕ, zero, suc, ◌*◌, Bool, cond, List, [], ◌∷◌, length, take, drop, ◌==◌, slice_index_or, slice_set}
+use Rattle.std.specs.Prelude.{ℕ, zero, suc, ◌*◌, Bool, List, [], ◌∷◌, length, take, drop, ◌==◌, slice_index_or, slice_set}
 use Rattle.cells.specs.Kinds.{Layer, Glyph}
 use Rattle.put_rule.specs.Putting.{put_row}
 

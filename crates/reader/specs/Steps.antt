@@ -1,5 +1,5 @@
 -- The table of the reader: what each state makes of each byte.
-use Rattle.std.specs.Prelude.{ℕ, ◌+◌, ◌-◌, ◌*◌, Bool, cond, ◌&&◌, ◌||◌, eqb, leb, ltb}
+use Rattle.std.specs.Prelude.{ℕ, ◌+◌, ◌-◌, ◌*◌, Bool, cond, ◌&&◌, eqb, leb, ltb}
 use Rattle.cells.specs.Widths.{within}
 use Rattle.reader.specs.declared.states.Action.{Action}
 use Rattle.reader.specs.declared.states.Action.TheVariants.{Nothing, Show, Right, To, SetPen}

@@ -1,5 +1,7 @@
 // Replays a pick list from standard input: its first line gives the width, every other line becomes a row of cells that is mended and printed.
 // With a command line each row is shown on a terminal besides, or on a pane of one; after the word raw only the bytes that the terminal sends are written.
+#![tactic(auto)]
+
 mod boards;
 mod command;
 mod inspection;
@@ -258,7 +260,10 @@ fn replay_dumb(rt: &HostRuntime, device: Device, is_printed: bool) -> anyhow::Re
     let (rows, columns) = (device.rows, device.columns);
     let count = rows.saturating_mul(columns);
     if let Err(fault) = Dumb::check(rows, columns, count) {
-        return Err(refused(fault, "a dumb terminal has 1 to 24 rows and 1 to 80 columns"));
+        return Err(refused(
+            fault,
+            "a dumb terminal has 1 to 24 rows and 1 to 80 columns",
+        ));
     }
     let mut cells = vec![in heap; ByteCell { byte: b'#' }; count]?;
     let mut line = vec![in heap; 0u8; device.line]?;
@@ -272,7 +277,10 @@ fn replay_ecma48(rt: &HostRuntime, device: Device, is_printed: bool) -> anyhow::
     let (rows, columns) = (device.rows, device.columns);
     let count = rows.saturating_mul(columns);
     if let Err(fault) = Ecma48::check(rows, columns, count) {
-        return Err(refused(fault, "an ECMA-48 terminal has 1 to 64 rows and 1 to 128 columns"));
+        return Err(refused(
+            fault,
+            "an ECMA-48 terminal has 1 to 64 rows and 1 to 128 columns",
+        ));
     }
     let mut cells = vec![in heap; TextCell::new(35, Part::Single, 0); count]?;
     let mut line = vec![in heap; 0u8; device.line]?;

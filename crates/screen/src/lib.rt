@@ -1,4 +1,6 @@
 // The screen record: windows, panels, brush and the cursor's place, with the touched range of each row.
+#![tactic(auto)]
+
 pub mod board;
 pub mod boxes;
 pub mod brushes;

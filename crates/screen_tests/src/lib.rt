@@ -1,3 +1,5 @@
+#![tactic(auto)]
+
 // Tests of the screen record on examples, in a crate of their own.
 #[cfg(test)]
 mod tests {

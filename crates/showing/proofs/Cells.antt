@@ -1,9 +1,9 @@
 -- The first operation of the cells from a column on.
-use Rattle.std.proofs.Common.{◌≡◌, ℕ, ◌+◌, ◌<◌, ◌≤◌, Bool, true, false, cond, List, [], ◌∷◌, length, get_or, drop, sym, refl, ap, ◌∙◌, add_assoc, arith}
+use Rattle.std.proofs.Common.{◌≡◌, ℕ, ◌+◌, ◌<◌, ◌≤◌, true, false, List, ◌∷◌, length, get_or, drop, sym, ap, ◌∙◌, add_assoc, arith}
 use Rattle.std.proofs.lemmas.List.{drop_more, drop_all, get_or_default}
 use Rattle.std.proofs.lemmas.Bool.{cond-true, cond-false}
 use Rattle.cells.specs.Kinds.{Glyph}
-use Rattle.terminal.specs.Operations.{Operation, Put, PutPair}
+use Rattle.terminal.specs.Operations.{Put, PutPair}
 use Rattle.showing.specs.RowOperations.{cell_operations}
 
 -- the cells from a column on begin with the one that is read there

@@ -1,4 +1,6 @@
 // Shows a row of cells on any terminal.
+#![tactic(auto)]
+
 ghost use Rattle.terminal.specs.Performing.{Effects};
 ghost use Rattle.showing.specs.RowOperations.{cell_operations, row_operations};
 

@@ -1,5 +1,5 @@
 -- The three operations of a terminal: when each is refused and what it does.
-use Rattle.std.specs.Prelude.{◌≡◌, ℕ, suc, ◌+◌, ◌%◌, ◌^◌, ◌≤◌, Bool, cond, not, ◌&&◌, List, [], ◌∷◌, length, is_some, Some, None, Option, Result, MatchResult, nat_le, nat_lt}
+use Rattle.std.specs.Prelude.{◌≡◌, ℕ, suc, ◌+◌, ◌%◌, ◌^◌, ◌≤◌, cond, not, ◌&&◌, List, [], ◌∷◌, length, is_some, Some, None, Option, Result, MatchResult, nat_le, nat_lt}
 use Rattle.faults.specs.declared.Fault.{Fault}
 use Rattle.faults.specs.declared.Fault.TheVariants.{OffGrid, LineFull, NotDrawable, CursorUnknown}
 use Rattle.cells.specs.Kinds.{Layer, Glyph}

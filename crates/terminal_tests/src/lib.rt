@@ -1,4 +1,6 @@
 // Tests of grids, of the dumb terminal and of panes on examples, in a crate of their own.
+#![tactic(auto)]
+
 ghost use Rattle.std.specs.Prelude.{◌+◌};
 ghost use Rattle.terminal.specs.Operations.{Move, Put, Effect};
 

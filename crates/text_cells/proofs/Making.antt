@@ -1,18 +1,17 @@
 -- A drawable single, and halves that belong together, are what their character makes.
-use Rattle.std.proofs.Common.{◌≡◌, ℕ, ◌<◌, ◌≤◌, Bool, true, false, cond, ◌&&◌, ◌⊎◌, sym, refl, ap, ◌∙◌, ap₂, inl, inr, arith}
+use Rattle.std.proofs.Common.{◌≡◌, ℕ, ◌<◌, ◌≤◌, true, false, ◌⊎◌, sym, refl, ap, ◌∙◌, ap₂, inl, arith}
 use Rattle.std.proofs.lemmas.Bool.{both_ways, and_parts, cond-true}
 use Rattle.std.proofs.lemmas.Bool.Decides.{nat_tests}
 use Rattle.cells.specs.Attributes.{are_attributes}
 use Rattle.cells.specs.Widths.{width_of}
 use Rattle.cells.specs.declared.widths.Width.{Width}
 use Rattle.cells.specs.declared.widths.Width.TheVariants.{Zero, One, Two}
-use Rattle.cells.specs.declared.kinds.Made.{Made}
 use Rattle.cells.specs.declared.kinds.Made.TheVariants.{Nothing, Single as MadeSingle, Pair as MadePair}
 use Rattle.text_cells.specs.declared.Part.{Part}
 use Rattle.text_cells.specs.declared.Part.TheVariants.{Single, Left, Right, Clear}
 use Rattle.text_cells.specs.declared.TextCell.{TextCell}
-use Rattle.text_cells.specs.TextCells.{text, is_single, is_left, is_right, fits_width, drawable, belong, make, make_for}
-use Rattle.text_cells.specs.Laws.{Halves, halves, left_part, right_part, same_cell}
+use Rattle.text_cells.specs.TextCells.{text, is_single, fits_width, drawable, belong, make, make_for}
+use Rattle.text_cells.specs.Laws.{halves, left_part, right_part, same_cell}
 
 single_part : (p : Part) → is_single p ≡ true → p ≡ Single
 single_part Single e = refl

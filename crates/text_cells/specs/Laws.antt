@@ -1,10 +1,10 @@
 -- The text cell keeps the laws of a kind for a terminal.
-use Rattle.std.specs.Prelude.{◌≡◌, ℕ, ◌<◌, ◌≤◌, Bool, true, false, cond, ◌&&◌, eqb, leb, refl}
-use Rattle.std.proofs.Common.{sym, ap, ◌∙◌, arith}
-use Rattle.std.proofs.lemmas.Bool.{both_ways, and_parts, and_from, and_right, eqb-true, eq-eqb, le-leb, lt-leb, cond-true, cond-false}
+use Rattle.std.specs.Prelude.{◌≡◌, ℕ, true, false, refl}
+use Rattle.std.proofs.Common.{sym, ap, ◌∙◌}
+use Rattle.std.proofs.lemmas.Bool.{both_ways, and_parts, and_from, and_right, eqb-true, eq-eqb, cond-true, cond-false}
 use Rattle.cells.specs.Attributes.{are_attributes}
 use Rattle.cells.specs.Widths.{width_of}
-use Rattle.cells.specs.Kinds.{Lawful, MadeFor, DrawableSingle}
+use Rattle.cells.specs.Kinds.{Lawful, MadeFor}
 use Rattle.cells.specs.declared.widths.Width.{Width}
 use Rattle.cells.specs.declared.widths.Width.TheVariants.{Zero, One, Two}
 use Rattle.cells.specs.declared.kinds.Made.TheVariants.{Nothing}

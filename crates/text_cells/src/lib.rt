@@ -1,4 +1,6 @@
 // The text cell: a character or one half of it, with attributes; or a clear cell.
+#![tactic(auto)]
+
 ghost use Rattle.std.specs.Prelude.{◌≡◌};
 ghost use Rattle.text_cells.specs.TextCells.{text, fits_width, text_layer, text_glyph};
 ghost use Rattle.std.proofs.Common.{rules};

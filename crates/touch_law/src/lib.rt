@@ -1,4 +1,6 @@
 // The law of touching: whatever a call does, outside the touched range of a row its picture is as it was.
+#![tactic(auto)]
+
 ghost use Rattle.std.specs.Prelude.{◌≡◌, IfOk, None, slice_index_or};
 ghost use Rattle.faults.specs.Refusals.{fault_of};
 ghost use Rattle.ranges.specs.Ranges.{inside};

@@ -1,4 +1,6 @@
 // The table of windows over window memory.
+#![tactic(auto)]
+
 pub mod calls;
 mod drawing;
 pub mod records;

@@ -1,5 +1,5 @@
 use Rattle.std.proofs.Common.{arith, rules}
-use lib.Count.{ones, ones-le}
+use lib.Count.{ones-le}
 use Rattle.ecma_bytes.proofs.Sizes.{change_size}
 use Rattle.ecma_bytes.proofs.writer.change_length.Goals as goal
 

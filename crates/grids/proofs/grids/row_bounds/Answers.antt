@@ -1,4 +1,4 @@
-use Rattle.std.proofs.Common.{arith, rules}
+use Rattle.std.proofs.Common.{rules}
 use Rattle.put_rule.proofs.GridRows.{row_end}
 use Rattle.grids.proofs.grids.row_bounds.Goals as goal
 

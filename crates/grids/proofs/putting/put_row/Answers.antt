@@ -1,4 +1,4 @@
-use Rattle.std.proofs.Common.{◌≡◌, ◌+◌, ◌<◌, length, ap, ◌∙◌, arith}
+use Rattle.std.proofs.Common.{◌+◌, ap, ◌∙◌}
 use Rattle.grids.specs.CellsPut.{cells_in}
 use Rattle.put_rule.proofs.PutRows.{written}
 use Rattle.grids.proofs.CellsPut.{some_cell}

@@ -1,5 +1,4 @@
 use Rattle.std.proofs.Common.{arith}
-use Rattle.grids.specs.CellsPut.{cells_in}
 use Rattle.grids.proofs.CellsPut.{one_write, two_writes}
 use Rattle.grids.proofs.putting.write_cells.Goals as goal
 

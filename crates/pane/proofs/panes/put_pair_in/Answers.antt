@@ -1,6 +1,5 @@
-use Rattle.std.proofs.Common.{◌≡◌, suc, ◌+◌, ◌-◌, ◌<◌, ◌≤◌, [], ◌∷◌, is_some, sym, refl, ap, ◌∙◌, arith}
+use Rattle.std.proofs.Common.{◌≡◌, suc, ◌-◌, ◌<◌, [], ◌∷◌, is_some, sym, refl, ap, ◌∙◌, arith}
 use Rattle.terminal.specs.Operations.{column_of}
-use Rattle.pane_parts.specs.Panes.{pane_columns}
 use Rattle.pane_parts.proofs.Operating.{seen, seen_at, columns_are, pair_refused, pane_effect}
 use Rattle.pane.proofs.panes.put_pair_in.Goals as goal
 

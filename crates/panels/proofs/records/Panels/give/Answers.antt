@@ -1,6 +1,5 @@
 use Rattle.std.proofs.Common.{Some, sym, ◌∙◌, arith}
 use Rattle.std.proofs.lemmas.List.{length-set}
-use Rattle.panels.specs.Places.{is_small}
 use Rattle.panels.specs.Decks.{deck_of}
 use Rattle.panels.proofs.Giving.{set_small, given_past}
 use Rattle.panels.proofs.records.Panels.give.Goals as goal

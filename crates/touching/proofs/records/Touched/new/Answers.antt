@@ -1,4 +1,4 @@
-use Rattle.std.proofs.Common.{min, length, take, replicate, None, ap, ◌∙◌, arith}
+use Rattle.std.proofs.Common.{length, take, replicate, None, ap, ◌∙◌, arith}
 use Rattle.std.proofs.lemmas.List.{take-replicate}
 use Rattle.touching.proofs.KeptRanges.{none_fits}
 use Rattle.touching.proofs.records.Touched.new.Goals as goal

@@ -1,4 +1,4 @@
-use Rattle.std.proofs.Common.{◌-◌, arith}
+use Rattle.std.proofs.Common.{arith}
 use Rattle.std.proofs.lemmas.Bool.Decides.{nat_tests}
 use Rattle.touching.proofs.TouchingLaws.{touching_none, touching_then, touching_like, rectangle_more, rectangle_cut}
 use Rattle.touching.proofs.records.Touched.touch_rectangle.Goals as goal
