@@ -27,6 +27,7 @@ use pick_list::{Laid, parse_width, show_row};
 use rows::mended_line;
 use std::alloc::{AllocError, Global};
 use std::io::{BufRead, BufReader, Read, Write};
+use std::process::ExitCode;
 use std::{env, io};
 use terminal::terminals::Terminal;
 use text_cells::{Part, TextCell};
@@ -296,26 +297,39 @@ fn replay_device(rt: &HostRuntime, device: Device, is_printed: bool) -> anyhow::
     }
 }
 
-// What the command line asks for.
-fn asked_command(rt: &HostRuntime) -> anyhow::Result<Command> {
+// What the command line asks for, none if its words are no command.
+fn asked_command(rt: &HostRuntime) -> anyhow::Result<Option<Command>> {
     let words: Vec<String> = env::args(rt)?.skip(1).collect(rt.alloc())?;
-    match parse_command(words.as_slice()) {
-        Some(command) => Ok(command),
-        None => Err(anyhow!(
-            "write replay, or replay dumb or ecma48 ROWS COLUMNS LINE, then perhaps pane ROW COLUMN HEIGHT WIDTH, with raw before dumb or ecma48 for the bytes alone"
-        )),
-    }
+    Ok(parse_command(words.as_slice()))
 }
 
-// The whole program.
-fn run(rt: &HostRuntime) -> anyhow::Result<()> {
-    match asked_command(rt)? {
+// Does what the command line asks for.
+fn run_command(rt: &HostRuntime, command: Command) -> anyhow::Result<()> {
+    match command {
         Command::List => replay(rt, &mut NoBoard, true),
         Command::Shown(device) => replay_device(rt, device, true),
         Command::Raw(device) => replay_device(rt, device, false),
     }
 }
 
-fn main(rt: HostRuntime) -> anyhow::Result<()> {
-    run(&rt)
+// The whole program, with the message of words that are no command.
+fn run(rt: &HostRuntime) -> anyhow::Result<ExitCode> {
+    let Some(command) = asked_command(rt)? else {
+        eprintln!(rt;
+            "write replay, or replay dumb or ecma48 ROWS COLUMNS LINE, then perhaps pane ROW COLUMN HEIGHT WIDTH, with raw before dumb or ecma48 for the bytes alone"
+        )?;
+        return Ok(ExitCode::FAILURE);
+    };
+    run_command(rt, command)?;
+    Ok(ExitCode::SUCCESS)
+}
+
+fn main(rt: HostRuntime) -> ExitCode {
+    match run(&rt) {
+        Ok(code) => code,
+        Err(fault) => {
+            let _ = eprintln!(rt; "{fault}");
+            ExitCode::FAILURE
+        }
+    }
 }

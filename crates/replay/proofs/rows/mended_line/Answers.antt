@@ -19,7 +19,9 @@ returns c =
     let kept : vec_items (with_items row after) ≡ after = with_items_is row after (c.mend_counted-blanked.auto.row ∙ c.as_mut_slice.ensures.len) in
     record {
       row = kept ∙ c.mend_counted-blanked.ensures.mended ∙ ap (mended text_layer text_glyph) (c.as_mut_slice.ensures.value ∙ copied);
-      counted = laid.counted;
+      laid = laid.counted.laid;
+      cut = laid.counted.cut;
+      dropped = laid.counted.dropped;
       blanked = subst (λ (xs : List TextCell). Differing wanted xs count) (sym kept)
           (subst (λ (xs : List TextCell). Differing xs after count) (c.as_slice-2.ensures.value ∙ laid.row) c.mend_counted-blanked.ensures.counted);
     }
