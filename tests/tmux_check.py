@@ -1,7 +1,7 @@
 #!/usr/bin/env python3
 # Holds what replay and emulate print to what a real terminal, tmux, shows of the same bytes: characters and attributes of every spot.
 #
-#     rt check replay emulate && python3 tests/tmux_check.py
+#     for name in replay emulate; do (cd crates/$name && rt run -- $(cat args) < stdin > /dev/null); done && python3 tests/tmux_check.py
 #
 # It needs tmux and the locale C.UTF-8, and starts a tmux server of its own, which it ends again. The streams leave out what tmux reads
 # differently: a character after the last column, which it wraps to the next row and the emulator drops; and a character over the second
@@ -15,8 +15,8 @@ import tempfile
 import time
 
 HERE = os.path.dirname(os.path.dirname(os.path.abspath(__file__)))
-REPLAY = os.path.join(HERE, "target/bin/replay")
-EMULATE = os.path.join(HERE, "target/bin/emulate")
+REPLAY = os.path.join(HERE, "crates/replay/out/replay")
+EMULATE = os.path.join(HERE, "crates/emulate/out/emulate")
 LIST = os.path.join(HERE, "crates/replay/stdin")
 WIDE = [(0x4E00, 0x9FFF), (0xAC00, 0xD7A3), (0xFF01, 0xFF60)]
 NARROW = [(0x20, 0x7E), (0xAE, 0x2FF)]
