@@ -1,5 +1,5 @@
 // A rectangle of a grid.
-#[derive(Clone, Copy)]
+#[derive(Clone, Copy, PartialEq, Eq, Debug)]
 pub struct Rectangle {
     pub top: usize,
     pub left: usize,
