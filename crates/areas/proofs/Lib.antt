@@ -2,4 +2,3 @@
 pub mod AddressLaws
 pub mod MemoryLaws
 pub mod AreaEnds
-pub mod Bools

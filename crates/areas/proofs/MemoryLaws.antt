@@ -1,8 +1,8 @@
 -- Memory by addresses.
-use Rattle.std.proofs.Common.{◌≡◌, ℕ, ◌<◌, cond, eqb, List, length, get_or, set, sym, refl, ap, ◌∙◌, inl, inr, arith}
+use Rattle.std.proofs.Common.{◌≡◌, ℕ, ◌<◌, cond, eqb, List, length, get_or, set, sym, refl, ◌∙◌, arith}
 use Rattle.std.proofs.lemmas.List.FromFn.{length-map-range_with_len, get_or-map-range_with_len}
-use Rattle.std.proofs.lemmas.List.{same_lists, get_or_default, length-set, get_or-set_same, get_or-set_other}
-use Rattle.std.proofs.lemmas.Bool.{cases_eq, eq-eqb, ne_eqb}
+use Rattle.std.proofs.lemmas.List.{same_lists, get_or_default}
+use Rattle.std.proofs.lemmas.Grind.{common_steps}
 use Rattle.std.proofs.lemmas.Bool.Decides.{nat_tests}
 use Rattle.areas.specs.Addresses.{in_span}
 use Rattle.areas.specs.Memories.{by_address}
@@ -36,13 +36,8 @@ module _ {C : Type 0} (memory : List C) where
   -- one cell written
   pub set-by_address : (f : ℕ → C) (i : ℕ) (v : C) → i < length memory → set (by_address memory f) i v ≡ by_address memory (λ x. cond (eqb x i) v (f x))
   set-by_address f i v h =
-      memory_is (set (by_address memory f) i v) (λ x. cond (eqb x i) v (f x)) (length-set (by_address memory f) i v ∙ length-by_address f)
-      (λ x d b. elim (cases_eq x i) [
-        | inl e ↦
-            rw (eq-eqb x i e)
-            (ap (λ (k : ℕ). get_or (set (by_address memory f) i v) k d) e ∙ get_or-set_same (by_address memory f) i v d (omega (arith, length-by_address f)))
-        | inr ne ↦ rw (ne_eqb x i ne) (get_or-set_other (by_address memory f) i x v d ne ∙ get_or-by_address f x d b)
-      ])
+      memory_is (set (by_address memory f) i v) (λ x. cond (eqb x i) v (f x)) (grind (arith, common_steps, length-by_address f))
+      (λ x d b. grind (arith, nat_tests, common_steps, length-by_address f, get_or-by_address f x d b))
 
 -- memory changed twice
 pub by_address_twice : {C : Type 0} (memory : List C) (f g : ℕ → C) → by_address (by_address memory f) g ≡ by_address memory g

@@ -42,7 +42,7 @@ impl TerminalCell for ByteCell {
     ghost lawful = { Laws.lawful };
 
     fn is_drawable(self) -> bool {
-        32 <= self.byte && self.byte <= 126
+        matches!(self.byte, 32..=126)
     }
 
     fn is_single(self) -> bool {

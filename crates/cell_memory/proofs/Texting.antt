@@ -1,51 +1,29 @@
 -- Cells written one after another.
-use Rattle.std.proofs.Common.{◌≡◌, ℕ, ◌+◌, ◌-◌, ◌^◌, ◌<◌, ◌≤◌, min, List, [], ◌∷◌, ◌++◌, length, get_or, take, sym, refl, ap, ◌∙◌, inl, inr, arith}
-use Rattle.std.specs.List.{flat_map}
-use Rattle.std.proofs.lemmas.List.{length-append, get_or_append_left, get_or-append_right, take_more, flat_map_more}
-use Rattle.std.proofs.lemmas.Bool.{cases_lt}
+use Rattle.std.proofs.Common.{◌≡◌, ℕ, ◌+◌, ◌-◌, ◌^◌, ◌<◌, ◌≤◌, min, List, [], ◌∷◌, ◌++◌, length, ap, ◌∙◌, arith}
+use Rattle.std.proofs.lemmas.List.{length-append}
+use Rattle.std.proofs.lemmas.Grind.{common_steps}
 use Rattle.std.proofs.lemmas.Bool.Decides.{nat_tests}
 use Rattle.cells.specs.Kinds.{Layer}
 use Rattle.cells.specs.declared.kinds.Made.{Made}
-use Rattle.cells.specs.declared.kinds.Made.TheVariants.{Nothing, Single, Pair, Singles}
 use Rattle.areas.specs.Memories.{by_address}
 use Rattle.areas.proofs.MemoryLaws.{by_address_like, by_address_twice, get_or-by_address}
 use Rattle.cell_memory.specs.Texts.{cells_in}
 use Rattle.cell_memory.specs.Writing.{filled, written}
 
--- what one element more of a list adds
-pub joined_take_more : {X Y : Type 0} (f : X → List Y) (xs : List X) (i : ℕ) (d : X) → i < length xs → flat_map f (take (i + 1) xs) ≡ flat_map f (take i xs) ++ f (get_or xs i d)
-joined_take_more f xs i d h = ap (flat_map f) (take_more xs i d h) ∙ sym (flat_map_more f [] (take i xs) (get_or xs i d))
-
 -- a character makes two cells at most
 pub two_at_most : {C : Type 0} (m : Made C) → length (cells_in m) ≤ 2
-two_at_most Nothing = omega arith
-two_at_most (Single c) = omega arith
-two_at_most (Pair c d) = omega arith
-two_at_most (Singles c d) = omega arith
+two_at_most m = grind arith
 
 -- one cell is a fill of one
 pub one_written : {C : Type 0} (l : Layer C) (memory : List C) (from : ℕ) (c : C) → by_address memory (filled l memory from 1 c) ≡ by_address memory (written l memory from (c ∷ []))
-one_written l memory from c = by_address_like memory _ _ (λ x h. elim (cases_lt x (from + 1)) [
-  | inl b ↦ elim (cases_lt x from) [ inl a ↦ grind (arith, nat_tests) | inr a ↦ let z : x - from ≡ 0 = omega arith in rw z (grind (arith, nat_tests)) ]
-  | inr b ↦ grind (arith, nat_tests)
-])
+one_written l memory from c = by_address_like memory _ _ (λ x h. grind (arith, nat_tests, common_steps))
 
 module _ {C : Type 0} (l : Layer C) (memory : List C) where
   more_at : (from at : ℕ) (cells new : List C) (x : ℕ) → x < length memory → (x < 2 ^ 64 - 1) → at ≡ min (from + length cells) (2 ^ 64 - 1) → written l (by_address memory (written l memory from cells)) at new x ≡ written l memory from (cells ++ new) x
   more_at from at cells new x h small e =
       let long = length-append cells new in
       let old = get_or-by_address memory (written l memory from cells) x l.blank h in
-      elim (cases_lt x (from + length cells)) [
-        | inl b ↦
-            elim (cases_lt x from) [
-              | inl a ↦ rw old (grind (arith, nat_tests))
-              | inr a ↦ rw (old, get_or_append_left cells new l.blank (x - from) (omega arith)) (grind (arith, nat_tests))
-            ]
-        | inr b ↦
-            let same : at ≡ from + length cells = omega arith in
-            rw (old, same, get_or-append_right cells new (length cells) (x - from) l.blank refl (omega arith))
-            (let z : x - from - length cells ≡ x - (from + length cells) = omega arith in rw z (grind (arith, nat_tests)))
-      ]
+      grind (arith, nat_tests, common_steps, old)
 
   -- more cells right after those that are written
   pub written_more : (from at : ℕ) (cells new : List C) → length memory < 2 ^ 64 → at ≡ min (from + length cells) (2 ^ 64 - 1) → by_address (by_address memory (written l memory from cells)) (written l (by_address memory (written l memory from cells)) at new) ≡ by_address memory (written l memory from (cells ++ new))

@@ -8,25 +8,19 @@ ghost use Rattle.cell_memory.specs.Writing.{filled, shifted, written};
 
 use cells::kinds::{LayerCell, Made, TerminalCell};
 
-// Writes a cell at each of `count` addresses.
+// Writes a cell at each of `count` addresses: the first and how many, since their end may be past all numbers.
 pub fn fill<C: LayerCell>(memory: &mut [C], from: usize, count: usize, cell: C)
     ensures { memory.new ≡ by_address memory.old (filled C.LayerCell.layer memory.old from count cell) }
 {
     let end = from.saturating_add(count).min(memory.len());
-    for address in from..end {
-        memory[address] = cell;
-    }
+    memory[from.min(end)..end].fill_with(|| cell);
 }
 
 // The cell at an address, the blank past the memory's end.
 fn cell_or_blank<C: LayerCell>(memory: &[C], address: usize) -> C
     ensures { result ≡ slice_index_or memory.now address C.LayerCell.layer.blank }
 {
-    if address < memory.len() {
-        memory[address]
-    } else {
-        C::blank()
-    }
+    memory.get(address).copied().unwrap_or(C::blank())
 }
 
 // Writes at each of `count` addresses the cell that lay `distance` further on.
@@ -34,13 +28,14 @@ pub fn shift<C: LayerCell>(memory: &mut [C], to: usize, distance: usize, count: 
     ensures { memory.new ≡ by_address memory.old (shifted C.LayerCell.layer memory.old to distance count) }
 {
     let end = to.saturating_add(count).min(memory.len());
+    // no plainer by `copy_within`: that needs the bounds of what lies in memory, and the blanks after it apart
     for address in to..end {
         memory[address] = cell_or_blank(memory, address.saturating_add(distance));
     }
 }
 
-// Writes the cells that a character made, and says how many they are.
-fn put_made<C: LayerCell>(memory: &mut [C], address: usize, made: Made<C>) -> usize
+// Writes the cells that a character made from an address on, and says how many they are.
+pub fn put_made<C: LayerCell>(memory: &mut [C], address: usize, made: Made<C>) -> usize
     ensures count { result ≡ length (cells_in made) }
     ensures after { memory.new ≡ by_address memory.old (written C.LayerCell.layer memory.old address (cells_in made)) }
 {

@@ -3,11 +3,11 @@ use Rattle.std.proofs.Common.{◌≡◌, ℕ, zero, suc, ◌+◌, ◌<◌, Bool,
 use Rattle.std.specs.List.{slice_get}
 use Rattle.std.proofs.lemmas.List.FromFn.{length-map-range_with_len, get_or-map-range_with_len}
 use Rattle.std.proofs.lemmas.List.{same_lists}
-use Rattle.std.proofs.lemmas.Option.{slice_get-get_or}
+use Rattle.std.proofs.lemmas.Option.{slice_get-get_or, slice_get_within, get_or_from_slice_get}
 use Rattle.std.proofs.lemmas.Bool.{both_ways, cases_Bool, or_cases, or_left, or_right, and_from, cond-true, cond-false}
 use Rattle.cells.specs.Kinds.{Layer, Glyph, Lawful}
 use Rattle.cells.specs.Rows.{before, after, paired, stays, mended_cell, mended_at, mended, ByColumn, Whole}
-use Rattle.cells.proofs.Places.{slice_get-within, slice_get-value, slice_get-over, over_more}
+use Rattle.cells.proofs.Places.{slice_get-over, over_more}
 
 cond_same : {A : Type 0} (b : Bool) (x : A) → cond b x x ≡ x
 cond_same true x = refl
@@ -38,8 +38,8 @@ module _ {C : Type 0} (l : Layer C) (g : Glyph C) where
 
   pub slice_get-mended : (row : List C) → ByColumn l g row (mended l g row)
   slice_get-mended row k c e =
-      let h : k < length (mended l g row) = omega (arith, slice_get-within row k c e, length-mended row) in
-      slice_get-get_or (mended l g row) k l.blank h ∙ ap Some (get_or-mended row k l.blank (slice_get-within row k c e) ∙ ap (λ (x : C). mended_cell l g (before row k) x (after row k)) (slice_get-value row k c l.blank e))
+      let h : k < length (mended l g row) = omega (arith, slice_get_within row k c e, length-mended row) in
+      slice_get-get_or (mended l g row) k l.blank h ∙ ap Some (get_or-mended row k l.blank (slice_get_within row k c e) ∙ ap (λ (x : C). mended_cell l g (before row k) x (after row k)) (get_or_from_slice_get row k c l.blank e))
 
   module _ (row : List C) where
     -- a cell that stays is there in the mended row
@@ -87,7 +87,7 @@ module _ {C : Type 0} (l : Layer C) (g : Glyph C) where
         same_lists _ _ (length-mended (mended l g row))
         (λ k d h. let within : k < length row = omega (arith, h, length-mended (mended l g row), length-mended row) in
         let e = settled_at k (get_or row k d) (slice_get-get_or row k d within) in
-        slice_get-value _ k _ d (e ∙ slice_get-get_or (mended l g row) k d (omega (arith, within, length-mended row))))
+        get_or_from_slice_get _ k _ d (e ∙ slice_get-get_or (mended l g row) k d (omega (arith, within, length-mended row))))
 
     -- the step of a loop that mends from the left: `now` is mended below k and raw from k on
     pub mend_more : (now : List C) (k : ℕ) (c new : C) (left right : Option C) → now ≡ take k (mended l g row) ++ drop k row → left ≡ before row k → slice_get now k ≡ Some c → right ≡ slice_get now (k + 1) → new ≡ mended_cell l g left c right → (set now k new ≡ take (k + 1) (mended l g row) ++ drop (k + 1) row) × (Some c ≡ before row (k + 1))
@@ -104,7 +104,7 @@ module _ {C : Type 0} (l : Layer C) (g : Glyph C) where
       same_lists _ _ (length-mended row)
       (λ k d h. let within : k < length row = omega (arith, length-mended row) in
       let e = slice_get-get_or row k d within in
-      slice_get-value _ k (get_or row k d) d (slice_get-mended row k (get_or row k d) e ∙ ap Some (cond-true _ (get_or row k d) l.blank (all k (get_or row k d) e))))
+      get_or_from_slice_get _ k (get_or row k d) d (slice_get-mended row k (get_or row k d) e ∙ ap Some (cond-true _ (get_or row k d) l.blank (all k (get_or row k d) e))))
 
   pub stays_from_whole : Lawful l g → (row : List C) → Whole l g row → (k : ℕ) (c : C) → slice_get row k ≡ Some c → stays g (before row k) c (after row k) ≡ true
   stays_from_whole laws row whole k c e =

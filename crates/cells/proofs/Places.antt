@@ -2,19 +2,9 @@
 use Rattle.std.proofs.Common.{◌≡◌, ℕ, zero, suc, ◌+◌, ◌<◌, ◌≤◌, List, [], ◌∷◌, ◌++◌, length, get_or, take, drop, set, Some, sym, refl, ap, ◌∙◌, add-one, arith}
 use Rattle.std.specs.List.{slice_get}
 use Rattle.std.proofs.lemmas.List.{append-nil, take_all, drop_all}
+use Rattle.std.proofs.lemmas.Option.{slice_get_within, get_or_from_slice_get}
 
 module _ {X : Type 0} where
-  -- what stands at a place is there, whatever the default
-  pub slice_get-within : (xs : List X) (k : ℕ) (x : X) → slice_get xs k ≡ Some x → k < length xs
-  slice_get-within [] k x e = absurd (let z : ◌≡◌ {A = ℕ} 0 1 = cc in omega arith)
-  slice_get-within (y ∷ xs) zero x e = omega arith
-  slice_get-within (y ∷ xs) (suc k) x e = let h = slice_get-within xs k x e in omega arith
-
-  pub slice_get-value : (xs : List X) (k : ℕ) (x d : X) → slice_get xs k ≡ Some x → get_or xs k d ≡ x
-  slice_get-value [] k x d e = absurd (let z : ◌≡◌ {A = ℕ} 0 1 = cc in omega arith)
-  slice_get-value (y ∷ xs) zero x d e = cc
-  slice_get-value (y ∷ xs) (suc k) x d e = slice_get-value xs k x d e
-
   -- new below n and old from n on: at n and after it the old elements stand
   pub slice_get-over : (n : ℕ) (new old : List X) → length new ≡ length old → (k : ℕ) → n ≤ k → slice_get (take n new ++ drop n old) k ≡ slice_get old k
   slice_get-over zero new old e k h = refl
@@ -38,8 +28,8 @@ module _ {X : Type 0} where
   -- the step of a loop that writes a list anew from its front
   pub over_more : (new old now : List X) (k : ℕ) (x : X) → length new ≡ length old → now ≡ take k new ++ drop k old → slice_get new k ≡ Some x → set now k x ≡ take (k + 1) new ++ drop (k + 1) old
   over_more new old now k x long e h =
-      let within : k < length old = omega (arith, slice_get-within new k x h) in
-      rw (add-one) (ap (λ (xs : List X). set xs k x) e ∙ ap (set (take k new ++ drop k old) k) (sym (slice_get-value new k x x h)) ∙ write_over k new old x long within)
+      let within : k < length old = omega (arith, slice_get_within new k x h) in
+      rw (add-one) (ap (λ (xs : List X). set xs k x) e ∙ ap (set (take k new ++ drop k old) k) (sym (get_or_from_slice_get new k x x h)) ∙ write_over k new old x long within)
 
   -- and its end
   pub over_all : (new old now : List X) (k : ℕ) → length new ≡ length old → now ≡ take k new ++ drop k old → length old ≤ k → now ≡ new

@@ -2,8 +2,8 @@
 ghost use Rattle.std.specs.Prelude.{◌≡◌, true, Decides};
 ghost use Rattle.cells.specs.Kinds.{Layer, Glyph, PunchedIsClear, Lawful};
 
-// What a character with attributes makes.
-#[derive(Clone, Copy, Debug)]
+// What a character with attributes makes: nothing is one of the four answers, and every caller matches on all of them at once.
+#[derive(Clone, Copy, PartialEq, Eq, Debug)]
 pub enum Made<C> {
     // no cell: the character takes no column, or the attributes are above 15
     Nothing,

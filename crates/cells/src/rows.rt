@@ -1,20 +1,8 @@
 // Rows of whole characters: mending turns every half that stands alone, and all that cannot be drawn, into the blank.
 ghost use Rattle.std.specs.Prelude.{◌≡◌};
-ghost use Rattle.std.specs.List.{slice_get};
 ghost use Rattle.cells.specs.Rows.{paired, stays, mended_cell, mended, ByColumn, Whole};
 
 use crate::kinds::TerminalCell;
-
-// The cell at a column, none past the row's end.
-pub fn cell_at<C: Copy>(row: &[C], column: usize) -> Option<C>
-    ensures { result ≡ slice_get row.now column }
-{
-    if column < row.len() {
-        Some(row[column])
-    } else {
-        None
-    }
-}
 
 // Do two neighbouring spots hold a left half and the right half that belongs to it?
 fn are_paired<C: TerminalCell>(left: Option<C>, right: Option<C>) -> bool
@@ -53,9 +41,11 @@ pub fn mend<C: TerminalCell>(row: &mut [C])
     ensures whole { Whole C.LayerCell.layer C.TerminalCell.glyph row.new }
 {
     let mut before = None;
+    // by columns, since a cell is written while the next one is read
     for column in 0..row.len() {
         let cell = row[column];
-        row[column] = mended_cell(before, cell, cell_at(row, column + 1));
+        let after = row.get(column + 1).copied();
+        row[column] = mended_cell(before, cell, after);
         before = Some(cell);
     }
 }

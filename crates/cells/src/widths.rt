@@ -5,9 +5,9 @@ ghost use Rattle.cells.specs.Widths.{width_of, columns_of};
 // The columns that a character takes.
 #[derive(Clone, Copy, PartialEq, Eq, Debug)]
 pub enum Width {
-    Zero,
-    One,
-    Two,
+    Zero = 0,
+    One = 1,
+    Two = 2,
 }
 
 impl Width {
@@ -26,10 +26,6 @@ impl Width {
     pub fn columns(self) -> u8
         ensures { result ≡ columns_of self }
     {
-        match self {
-            Width::Zero => 0,
-            Width::One => 1,
-            Width::Two => 2,
-        }
+        self as u8
     }
 }

@@ -1,6 +1,6 @@
+// Tests of the cells, of both kinds, of the refusals and of the pick list on examples, in a crate of their own.
 #![tactic(auto)]
 
-// Tests of the cells, of both kinds, of the refusals and of the pick list on examples, in a crate of their own.
 #[cfg(test)]
 mod tests {
     use byte_cells::ByteCell;
@@ -8,7 +8,9 @@ mod tests {
     use cells::rows::mend;
     use cells::widths::Width;
     use faults::{Fault, FaultLayer};
-    use pick_list::{Laid, count_differing, lay, parse_width, show_row};
+    use grids::grids::Grid;
+    use pick_list::{Cursor, Laid, count_differing, lay, parse_width, row_cells, show_row};
+    use places::{Size, Spot};
     use std::test::Fail;
     use text_cells::{Part, TextCell};
 
@@ -28,25 +30,6 @@ mod tests {
     };
 
     const UNKNOWN: ByteCell = ByteCell { byte: 63 };
-
-    // What kind of answer a character made.
-    #[derive(Clone, Copy, PartialEq, Eq, Debug)]
-    enum Shape {
-        Nothing,
-        Single,
-        Pair,
-        Singles,
-    }
-
-    // The answer and its cells, with `none` in place of those that it has not.
-    fn shape_of<C: Copy>(made: Made<C>, none: C) -> (Shape, C, C) {
-        match made {
-            Made::Nothing => (Shape::Nothing, none, none),
-            Made::Single(cell) => (Shape::Single, cell, none),
-            Made::Pair(left, right) => (Shape::Pair, left, right),
-            Made::Singles(first, second) => (Shape::Singles, first, second),
-        }
-    }
 
     fn byte(byte: u8) -> ByteCell {
         ByteCell { byte }
@@ -142,59 +125,38 @@ mod tests {
     #[test]
     fn characters_make_text_cells(rt: HostRuntime) {
         let table = [
-            (0x1F, 0, (Shape::Nothing, CLEAR, CLEAR)),
-            (
-                97,
-                15,
-                (Shape::Single, TextCell::new(97, Part::Single, 15), CLEAR),
-            ),
-            (97, 16, (Shape::Nothing, CLEAR, CLEAR)),
-            (
-                0xE8,
-                0,
-                (Shape::Single, TextCell::new(0xE8, Part::Single, 0), CLEAR),
-            ),
+            (0x1F, 0, Made::Nothing),
+            (97, 15, Made::Single(TextCell::new(97, Part::Single, 15))),
+            (97, 16, Made::Nothing),
+            (0xE8, 0, Made::Single(TextCell::new(0xE8, Part::Single, 0))),
             (
                 RICE,
                 9,
-                (
-                    Shape::Pair,
+                Made::Pair(
                     TextCell::new(RICE, Part::Left, 9),
                     TextCell::new(RICE, Part::Right, 9),
                 ),
             ),
-            (RICE, 16, (Shape::Nothing, CLEAR, CLEAR)),
+            (RICE, 16, Made::Nothing),
         ];
         for (character, attributes, made) in table {
-            assert_eq!(rt;
-                shape_of(
-                    <TextCell as cells::kinds::TerminalCell>::make(character, attributes),
-                    CLEAR
-                ),
-                made
-            );
+            assert_eq!(rt; TextCell::make(character, attributes), made);
         }
     }
 
     #[test]
     fn characters_make_byte_cells(rt: HostRuntime) {
         let table = [
-            (0x1F, 0, (Shape::Nothing, byte(0), byte(0))),
-            (126, 15, (Shape::Single, byte(126), byte(0))),
-            (97, 16, (Shape::Nothing, byte(0), byte(0))),
-            (0xAE, 0, (Shape::Single, UNKNOWN, byte(0))),
-            (0x2FF, 0, (Shape::Single, UNKNOWN, byte(0))),
-            (RICE, 0, (Shape::Singles, UNKNOWN, UNKNOWN)),
-            (RICE, 16, (Shape::Nothing, byte(0), byte(0))),
+            (0x1F, 0, Made::Nothing),
+            (126, 15, Made::Single(byte(126))),
+            (97, 16, Made::Nothing),
+            (0xAE, 0, Made::Single(UNKNOWN)),
+            (0x2FF, 0, Made::Single(UNKNOWN)),
+            (RICE, 0, Made::Singles(UNKNOWN, UNKNOWN)),
+            (RICE, 16, Made::Nothing),
         ];
         for (character, attributes, made) in table {
-            assert_eq!(rt;
-                shape_of(
-                    <ByteCell as cells::kinds::TerminalCell>::make(character, attributes),
-                    byte(0)
-                ),
-                made
-            );
+            assert_eq!(rt; ByteCell::make(character, attributes), made);
         }
     }
 
@@ -284,6 +246,37 @@ mod tests {
         assert_eq!(rt; count_differing(&raw, &[BLANK]), 1);
         assert_eq!(rt; show_row(rt.alloc(), &raw)?.as_str(), "米?");
         assert_eq!(rt; show_row(rt.alloc(), &mended)?.as_str(), "米 ");
+        assert_eq!(rt; show_row(rt.alloc(), &[byte(97), byte(0)])?.as_str(), "a?");
+        Ok(())
+    }
+
+    #[test]
+    fn rows_of_a_grid_are_read(rt: HostRuntime) -> Result<(), Fail> {
+        let mut memory = [byte(97), byte(98), byte(99), byte(100)];
+        let mut grid = Grid {
+            cells: &mut memory,
+            size: Size {
+                rows: 2,
+                columns: 2,
+            },
+        };
+        let last = row_cells(rt.alloc(), &mut grid, 1)?;
+        assert_eq!(rt; last.as_slice(), [byte(99), byte(100)].as_slice());
+        assert_eq!(rt;
+            row_cells(rt.alloc(), &mut grid, 2)?.len(),
+            0,
+            "off the grid"
+        );
+        Ok(())
+    }
+
+    #[test]
+    fn cursors_are_told(rt: HostRuntime) -> Result<(), Fail> {
+        let spot = Spot { row: 3, column: 10 };
+        let told = format!(in rt.alloc(); "{}", Cursor(Some(spot)))?;
+        assert_eq!(rt; told.as_str(), "cursor 3 10");
+        let told = format!(in rt.alloc(); "{}", Cursor(None))?;
+        assert_eq!(rt; told.as_str(), "cursor unknown");
         Ok(())
     }
 }

@@ -1,5 +1,6 @@
 -- What the reader makes of a character's UTF-8 form.
-use Rattle.std.proofs.Common.{◌≡◌, ℕ, zero, suc, ◌+◌, ◌-◌, ◌*◌, ◌/◌, ◌%◌, ◌<◌, ◌≤◌, true, false, cond, ◌&&◌, eqb, leb, ◌⊎◌, List, [], ◌∷◌, length, take, refl, ap, ◌∙◌, inl, inr, arith}
+use Rattle.std.proofs.Common.{◌≡◌, ℕ, zero, suc, ◌+◌, ◌-◌, ◌*◌, ◌/◌, ◌%◌, ◌<◌, ◌≤◌, true, false, cond, ◌&&◌, eqb, leb, ◌⊎◌, List, [], ◌∷◌, ◌++◌, length, take, drop, None, Option, refl, ap, ◌∙◌, inl, inr, arith}
+use lib.Seq.{drop-append_seam}
 use lib.Utf8.{next, encode}
 use Rattle.std.proofs.lemmas.Bool.{cases_lt, lt-ltb, le-ltb, cases_eq, eq-eqb, ne_eqb}
 use Rattle.std.proofs.lemmas.Bool.Decides.{nat_tests}
@@ -8,25 +9,25 @@ use Rattle.reader.specs.Steps.{Step, stepped, gathers, completes}
 use Rattle.reader.specs.declared.states.State.{State}
 use Rattle.reader.specs.declared.states.State.TheVariants.{Plain, InCharacter}
 use Rattle.reader.specs.declared.states.Action.{Action}
-use Rattle.reader.specs.declared.states.Action.TheVariants.{Nothing, Show}
-use Rattle.emulator.specs.Screens.{Screen, with_state, acts, read_bytes, CompletesNothing}
+use Rattle.reader.specs.declared.states.Action.TheVariants.{Show}
+use Rattle.emulator.specs.Screens.{Screen, with_state, acts, does, read_bytes, CompletesNothing}
 use Rattle.ecma_bytes.specs.RoundTrip.{plain, steps_through, IsCharacter}
 
 -- bytes of which only the last completes something, and the reader is between characters then
 abbrev pub Spells : State → List ℕ → Action → Type 0
 Spells state [] action = ⊥
 Spells state (b ∷ []) action = stepped state b ≡ completes action
-Spells state (b ∷ c ∷ rest) action = ((stepped state b).1 ≡ Nothing) × Spells (stepped state b).0 (c ∷ rest) action
+Spells state (b ∷ c ∷ rest) action = ((stepped state b).1 ≡ None) × Spells (stepped state b).0 (c ∷ rest) action
 
 -- a screen does just that
 pub spelled_read : (s : Screen) (state : State) (bytes : List ℕ) (action : Action) → Spells state bytes action → read_bytes (with_state state s) bytes ≡ acts (plain s) action
 spelled_read s state [] action h = absurd h
-spelled_read s state (b ∷ []) action h = ap (λ (p : Step). acts (with_state p.0 s) p.1) h
+spelled_read s state (b ∷ []) action h = ap (λ (p : Step). does (with_state p.0 s) p.1) h
 spelled_read s state (b ∷ c ∷ rest) action h =
-    ap (λ (a : Action). read_bytes (acts (with_state (stepped state b).0 s) a) (c ∷ rest)) h.0
+    ap (λ (o : Option Action). read_bytes (does (with_state (stepped state b).0 s) o) (c ∷ rest)) h.0
     ∙ spelled_read s (stepped state b).0 (c ∷ rest) action h.1
 
-spelled_whole : (state : State) (old : Action) (bytes : List ℕ) (action : Action) → Spells state bytes action → steps_through (state, old) bytes ≡ completes action
+spelled_whole : (state : State) (old : Option Action) (bytes : List ℕ) (action : Action) → Spells state bytes action → steps_through (state, old) bytes ≡ completes action
 spelled_whole state old [] action h = absurd h
 spelled_whole state old (b ∷ []) action h = h
 spelled_whole state old (b ∷ c ∷ rest) action h = spelled_whole (stepped state b).0 (stepped state b).1 (c ∷ rest) action h.1
@@ -38,7 +39,7 @@ spelled_shorter state (b ∷ []) action h (suc n) k = absurd (omega arith)
 spelled_shorter state (b ∷ c ∷ rest) action h (suc n) k = (h.0, spelled_shorter (stepped state b).0 (c ∷ rest) action h.1 n (omega arith))
 
 -- the first byte of a character, and those that follow
-lead_one : (c : ℕ) → 32 ≤ c → c < 128 → stepped Plain c ≡ (Plain, Show c)
+lead_one : (c : ℕ) → 32 ≤ c → c < 128 → stepped Plain c ≡ completes (Show c)
 lead_one c h k =
     let escape : eqb c 27 ≡ false = grind (arith, nat_tests) in
     let ascii : leb c 127 ≡ true = grind (arith, nat_tests) in
@@ -88,7 +89,7 @@ module _ (bits low high r : ℕ) (few : bits ≤ 17407) (small : r ≤ 63) (from
   value : 128 + r - 128 ≡ r
   value = omega arith
 
-  last_byte : stepped (gathered bits 1 low high) (128 + r) ≡ (Plain, Show (bits * 64 + r))
+  last_byte : stepped (gathered bits 1 low high) (128 + r) ≡ completes (Show (bits * 64 + r))
   last_byte = rw (fits, value)
 
   one_to_come : stepped (gathered bits 2 low high) (128 + r) ≡ gathers (bits * 64 + r) 1 128 191
@@ -136,4 +137,8 @@ spelled c from to scalar =
 pub encoded : (c : ℕ) → IsCharacter c (encode c)
 encoded c from to scalar =
     let h = spelled c from to scalar in
-    record { whole = spelled_whole Plain Nothing (encode c) (Show c) h; shorter = spelled_shorter Plain (encode c) (Show c) h }
+    record { whole = spelled_whole Plain None (encode c) (Show c) h; shorter = spelled_shorter Plain (encode c) (Show c) h }
+
+-- the same of what follows a front of other bytes
+pub decoded_after : (front bytes : List ℕ) (c : ℕ) → bytes ≡ front ++ encode c → IsCharacter c (drop (length front) bytes)
+decoded_after front bytes c e = rw (e, drop-append_seam) (encoded c)

@@ -1,5 +1,5 @@
 -- What the emulator makes of the bytes of each operation.
-use Rattle.std.proofs.Common.{◌≡◌, ℕ, ◌+◌, ◌-◌, ◌*◌, ◌/◌, ◌%◌, ◌<◌, ◌≤◌, min, true, false, ◌&&◌, eqb, ltb, leb, ◌⊎◌, List, [], ◌∷◌, ◌++◌, Some, None, Option, sym, refl, ap, ◌∙◌, ap₂, inl, inr, arith}
+use Rattle.std.proofs.Common.{◌≡◌, ℕ, zero, suc, ◌+◌, ◌-◌, ◌*◌, ◌/◌, ◌%◌, ◌<◌, ◌≤◌, min, true, false, ◌&&◌, eqb, ltb, leb, ◌⊎◌, List, [], ◌∷◌, ◌++◌, Some, None, Option, sym, ap, ◌∙◌, ap₂, subst, inl, inr, arith, rules}
 use lib.Utf8.{encode}
 use Rattle.text_cells.specs.TextCells.{make}
 use Rattle.std.proofs.lemmas.Bool.{cases_lt, lt-leb, le-leb, cases_Bool, and_parts, eqb-true, eqb-false, leb-true}
@@ -8,20 +8,31 @@ use Rattle.cells.specs.Attributes.{are_attributes}
 use Rattle.reader.specs.Steps.{Step, stepped, takes_digit, is_first_digit}
 use Rattle.reader.specs.declared.states.State.TheVariants.{Plain, InSequence}
 use Rattle.reader.specs.declared.states.Sequence.{Sequence}
-use Rattle.reader.specs.declared.states.Action.TheVariants.{Nothing, Show}
+use Rattle.reader.specs.declared.states.Action.TheVariants.{Show}
 use Rattle.reader.specs.declared.states.Sequence.TheVariants.{Opened, First, Parted, Second}
-use Rattle.emulator.specs.Screens.{Screen, with_state, with_cursor, with_pen, acts, right_by, shows, read_byte, read_bytes, CursorOnGrid}
+use Rattle.emulator.specs.Screens.{Screen, with_state, with_cursor, with_pen, does, right_by, shows, read_byte, read_bytes, CursorOnGrid}
 use Rattle.emulator.proofs.Reading.{read_append}
 use Rattle.terminal.specs.Operations.{spot}
-use Rattle.terminal.specs.declared.spots.Spot.{Spot}
-use Rattle.ecma_bytes.proofs.Sizes.{up_to_15}
+use Rattle.places.specs.declared.Spot.{Spot}
 use Rattle.ecma_bytes.proofs.Spelling.{spelled, spelled_read}
 use Rattle.ecma_bytes.specs.Bytes.{number, right_bytes, to_bytes, move_bytes, change_bytes, pen_bytes, put_bytes}
 use Rattle.ecma_bytes.specs.RoundTrip.{plain, ReadsAsMove, ReadsAsCharacter}
 
--- each sum of attributes
+-- each sum of attributes, one after another
+abbrev AllBelow : (ℕ → Type 0) → ℕ → Type 0
+AllBelow P zero = Unit {0}
+AllBelow P (suc n) = AllBelow P n × P n
+
+each_below : (P : ℕ → Type 0) (n : ℕ) → AllBelow P n → (k : ℕ) → k < n → P k
+each_below P zero all k below = absurd (omega arith)
+each_below P (suc n) all k below =
+    elim (cases_lt k n) [
+      | inl less ↦ each_below P n all.0 k less
+      | inr last ↦ let same : n ≡ k = omega arith in subst P same all.1
+    ]
+
 change_read : (s : Screen) (a : ℕ) → a ≤ 15 → read_bytes (plain s) (change_bytes a) ≡ plain (with_pen a s)
-change_read s = up_to_15 (λ (a : ℕ). read_bytes (plain s) (change_bytes a) ≡ plain (with_pen a s)) refl refl refl refl refl refl refl refl refl refl refl refl refl refl refl refl
+change_read s a h = each_below (λ (k : ℕ). read_bytes (plain s) (change_bytes k) ≡ plain (with_pen k s)) 16 (search rules) a (omega arith)
 
 pen_read : (s : Screen) (a : ℕ) → are_attributes a ≡ true → read_bytes (plain s) (pen_bytes s.pen a) ≡ plain (with_pen a s)
 pen_read s a h =
@@ -32,14 +43,14 @@ pen_read s a h =
 
 -- a number goes on in a sequence: the state before it, and the states that digits lead to
 module _ (begin : Sequence) (number_in : ℕ → Sequence)
-    (one : (d : ℕ) → 1 ≤ d → d ≤ 9 → stepped (InSequence begin) (48 + d) ≡ (InSequence (number_in d), Nothing))
-    (more : (n d : ℕ) → n ≤ 999 → d ≤ 9 → stepped (InSequence (number_in n)) (48 + d) ≡ (InSequence (number_in (n * 10 + d)), Nothing))
+    (one : (d : ℕ) → 1 ≤ d → d ≤ 9 → stepped (InSequence begin) (48 + d) ≡ (InSequence (number_in d), None))
+    (more : (n d : ℕ) → n ≤ 999 → d ≤ 9 → stepped (InSequence (number_in n)) (48 + d) ≡ (InSequence (number_in (n * 10 + d)), None))
     (s : Screen) where
   first_digit : (d : ℕ) → 1 ≤ d → d ≤ 9 → read_byte (with_state (InSequence begin) s) (48 + d) ≡ with_state (InSequence (number_in d)) s
-  first_digit d h k = ap (λ (p : Step). acts (with_state p.0 s) p.1) (one d h k)
+  first_digit d h k = ap (λ (p : Step). does (with_state p.0 s) p.1) (one d h k)
 
   next_digit : (n d m : ℕ) → n ≤ 999 → d ≤ 9 → n * 10 + d ≡ m → read_byte (with_state (InSequence (number_in n)) s) (48 + d) ≡ with_state (InSequence (number_in m)) s
-  next_digit n d m h k e = ap (λ (p : Step). acts (with_state p.0 s) p.1) (more n d h k) ∙ ap (λ (x : ℕ). with_state (InSequence (number_in x)) s) e
+  next_digit n d m h k e = ap (λ (p : Step). does (with_state p.0 s) p.1) (more n d h k) ∙ ap (λ (x : ℕ). with_state (InSequence (number_in x)) s) e
 
   -- the digits of the number so far, one byte more
   and_digit : (m d n : ℕ) (x : Screen) → m ≤ 999 → d ≤ 9 → m * 10 + d ≡ n → x ≡ with_state (InSequence (number_in m)) s → read_byte x (48 + d) ≡ with_state (InSequence (number_in n)) s
@@ -81,16 +92,16 @@ first_of d h k = grind (arith, nat_tests)
 value_of : (d : ℕ) → 48 + d - 48 ≡ d
 value_of d = omega arith
 
-opened_one : (d : ℕ) → 1 ≤ d → d ≤ 9 → stepped (InSequence Opened) (48 + d) ≡ (InSequence (First d), Nothing)
+opened_one : (d : ℕ) → 1 ≤ d → d ≤ 9 → stepped (InSequence Opened) (48 + d) ≡ (InSequence (First d), None)
 opened_one d h k = let zero-not : eqb (48 + d) 48 ≡ false = grind (arith, nat_tests) in rw (zero-not, first_of d h k, value_of d)
 
-first_more : (n d : ℕ) → n ≤ 999 → d ≤ 9 → stepped (InSequence (First n)) (48 + d) ≡ (InSequence (First (n * 10 + d)), Nothing)
+first_more : (n d : ℕ) → n ≤ 999 → d ≤ 9 → stepped (InSequence (First n)) (48 + d) ≡ (InSequence (First (n * 10 + d)), None)
 first_more n d h k = rw (taken n d h k, value_of d)
 
-parted_one : (r d : ℕ) → 1 ≤ d → d ≤ 9 → stepped (InSequence (Parted r)) (48 + d) ≡ (InSequence (Second r d), Nothing)
+parted_one : (r d : ℕ) → 1 ≤ d → d ≤ 9 → stepped (InSequence (Parted r)) (48 + d) ≡ (InSequence (Second r d), None)
 parted_one r d h k = rw (first_of d h k, value_of d)
 
-second_more : (r n d : ℕ) → n ≤ 999 → d ≤ 9 → stepped (InSequence (Second r n)) (48 + d) ≡ (InSequence (Second r (n * 10 + d)), Nothing)
+second_more : (r n d : ℕ) → n ≤ 999 → d ≤ 9 → stepped (InSequence (Second r n)) (48 + d) ≡ (InSequence (Second r (n * 10 + d)), None)
 second_more r n d h k = rw (taken n d h k, value_of d)
 
 -- ESC [ n C

@@ -1,15 +1,16 @@
 -- The bytes that a terminal of ECMA-48 sends for each operation.
 use Rattle.std.specs.Prelude.{ℕ, ◌+◌, ◌-◌, ◌/◌, ◌%◌, cond, ◌&&◌, List, [], ◌∷◌, ◌++◌, Some, None, Option, ◌==◌, nat_le}
 use Rattle.std.proofs.Math.Utf8.{encode}
-use Rattle.terminal.specs.declared.spots.Spot.{Spot}
+use Rattle.places.specs.declared.Spot.{Spot}
 
--- a digit, where the number reaches it
-abbrev pub digit_from : ℕ → ℕ → ℕ → List ℕ
-digit_from least n digit = cond (nat_le least n) ((48 + digit) ∷ []) []
+-- a digit for each of these powers of ten that the number reaches, then the last digit
+abbrev pub digits_from : List ℕ → ℕ → List ℕ
+digits_from [] n = (48 + n % 10) ∷ []
+digits_from (least ∷ powers) n = cond (nat_le least n) ((48 + n / least % 10) ∷ []) [] ++ digits_from powers n
 
 -- a number up to 9999 in decimal, without leading zeros
 abbrev pub number : ℕ → List ℕ
-number n = digit_from 1000 n (n / 1000 % 10) ++ (digit_from 100 n (n / 100 % 10) ++ (digit_from 10 n (n / 10 % 10) ++ ((48 + n % 10) ∷ [])))
+number n = digits_from (1000 ∷ 100 ∷ 10 ∷ []) n
 
 -- ESC [ n C
 abbrev pub right_bytes : ℕ → List ℕ
@@ -29,10 +30,14 @@ move_bytes (Some s) row column =
 abbrev pub attribute_bytes : ℕ → ℕ → ℕ → List ℕ
 attribute_bytes attributes bit digit = cond (attributes / bit % 2 == 1) (0x3B ∷ digit ∷ []) []
 
+-- the same for each attribute and its digit, then m
+abbrev pub set_bytes : ℕ → List (ℕ × ℕ) → List ℕ
+set_bytes attributes [] = 0x6D ∷ []
+set_bytes attributes (d ∷ digits) = attribute_bytes attributes d.0 d.1 ++ set_bytes attributes digits
+
 -- ESC [ 0, then ;1 ;4 ;5 ;7 as set, then m
 abbrev pub change_bytes : ℕ → List ℕ
-change_bytes a =
-    0x1B ∷ 0x5B ∷ 0x30 ∷ (attribute_bytes a 1 0x31 ++ (attribute_bytes a 2 0x34 ++ (attribute_bytes a 4 0x35 ++ (attribute_bytes a 8 0x37 ++ (0x6D ∷ [])))))
+change_bytes a = 0x1B ∷ 0x5B ∷ 0x30 ∷ set_bytes a ((1, 0x31) ∷ (2, 0x34) ∷ (4, 0x35) ∷ (8, 0x37) ∷ [])
 
 -- nothing where the pen has the attributes already
 abbrev pub pen_bytes : ℕ → ℕ → List ℕ

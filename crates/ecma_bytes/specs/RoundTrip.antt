@@ -1,11 +1,11 @@
 -- The emulator reads what is sent as the operation meant, and is between characters again; the reader takes UTF-8 for just the character.
-use Rattle.std.specs.Prelude.{◌≡◌, ℕ, ◌<◌, ◌≤◌, true, ◌⊎◌, List, [], ◌∷◌, length, take, Some, Option}
+use Rattle.std.specs.Prelude.{◌≡◌, ℕ, ◌<◌, ◌≤◌, true, ◌⊎◌, List, [], ◌∷◌, length, take, Some, None, Option}
 use Rattle.cells.specs.Attributes.{are_attributes}
 use Rattle.text_cells.specs.TextCells.{make}
 use Rattle.terminal.specs.Operations.{spot}
-use Rattle.terminal.specs.declared.spots.Spot.{Spot}
+use Rattle.places.specs.declared.Spot.{Spot}
 use Rattle.reader.specs.Steps.{Step, stepped, completes}
-use Rattle.reader.specs.declared.states.Action.TheVariants.{Nothing, Show}
+use Rattle.reader.specs.declared.states.Action.TheVariants.{Show}
 use Rattle.reader.specs.declared.states.State.TheVariants.{Plain}
 use Rattle.emulator.specs.Screens.{Screen, with_state, with_cursor, with_pen, shows, read_bytes, CursorOnGrid, CompletesNothing}
 
@@ -33,7 +33,7 @@ steps_through step (byte ∷ bytes) = steps_through (stepped step.0 byte) bytes
 -- between characters, the reader takes the bytes for just that character
 pub record DecodesTo (character : ℕ) (bytes : List ℕ) : Type 0 where
   -- the last byte completes it, and the reader is between characters again
-  pub whole : steps_through (Plain, Nothing) bytes ≡ completes (Show character)
+  pub whole : steps_through (Plain, None) bytes ≡ completes (Show character)
   -- no byte of a shorter front completes anything
   pub shorter : (n : ℕ) → n < length bytes → CompletesNothing Plain (take n bytes)
 

@@ -41,7 +41,7 @@ six_columns row room need tally = record {
 
 -- the touched range of a row of six columns after a panel of one cell was shown at a column of it
 abbrev shown_at : ℕ → Option Panel
-shown_at column = Some (record { window = 0; view = area 0 1 1 1; row = 0; column = column })
+shown_at column = Some (record { window = 0; view = area 0 1 1 1; at = spot 0 column })
 
 abbrev touched_by : ℕ → List (Option Range)
 touched_by column = touch 6 (None ∷ []) (covers (shown_at column))

@@ -5,7 +5,8 @@ ghost use Rattle.edges.specs.Table.{EdgeTable};
 
 use text_cells::{Part, TextCell};
 
-// The two halves of the wide character 0x4E2D, of which the table speaks.
+// The two halves of the wide character 0x4E2D, of which the table speaks; the left one part by part, since the table is computed with its parts.
+#[tactic(auto, unfolding(cells::specs::Rows::mended, grids::specs::Putting::put_row, ranges::specs::Ranges::smallest, ranges::specs::Ranges::touch))]
 pub fn edge_table() -> (TextCell, TextCell)
     ensures { EdgeTable result.0 result.1 }
 {
@@ -15,9 +16,8 @@ pub fn edge_table() -> (TextCell, TextCell)
         attributes: 0,
     };
     let right = TextCell {
-        character: 0x4E2D,
         part: Part::Right,
-        attributes: 0,
+        ..left
     };
     (left, right)
 }

@@ -1,3 +1,2 @@
 -- Lemmas that several proofs of this crate and of those above cite.
-pub mod Keeping
 pub mod Reading

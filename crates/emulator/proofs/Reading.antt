@@ -1,7 +1,8 @@
 -- Bytes read one after another.
-use Rattle.std.proofs.Common.{◌≡◌, ℕ, List, [], ◌∷◌, ◌++◌, sym, refl, ap, ◌∙◌}
+use Rattle.std.proofs.Common.{◌≡◌, ℕ, List, [], ◌∷◌, ◌++◌, Option, refl, ap, ◌∙◌}
 use Rattle.reader.specs.Steps.{stepped}
-use Rattle.emulator.specs.Screens.{Screen, with_state, acts, read_byte, read_bytes, CompletesNothing}
+use Rattle.reader.specs.declared.states.Action.{Action}
+use Rattle.emulator.specs.Screens.{Screen, with_state, does, read_byte, read_bytes, CompletesNothing}
 
 -- one part after another
 pub read_append : (s : Screen) (xs ys : List ℕ) → read_bytes s (xs ++ ys) ≡ read_bytes (read_bytes s xs) ys
@@ -9,11 +10,8 @@ read_append s [] ys = refl
 read_append s (x ∷ xs) ys = read_append (read_byte s x) xs ys
 
 -- bytes that complete nothing change at most where the reader stands
-pub nothing_read : (s : Screen) (bytes : List ℕ) → CompletesNothing s.state bytes → read_bytes s bytes ≡ with_state (read_bytes s bytes).state s
-nothing_read s [] h = refl
-nothing_read s (byte ∷ bytes) h =
+pub nothing_read : (s t : Screen) (bytes : List ℕ) → t ≡ read_bytes s bytes → CompletesNothing s.state bytes → t ≡ with_state t.state s
+nothing_read s t [] e h = rw e
+nothing_read s t (byte ∷ bytes) e h =
     let next = with_state (stepped s.state byte).0 s in
-    let same : read_byte s byte ≡ next = ap (acts next) h.0 in
-    ap (λ (x : Screen). read_bytes x bytes) same
-    ∙ nothing_read next bytes h.1
-    ∙ ap (λ (x : Screen). with_state (read_bytes x bytes).state s) (sym same)
+    nothing_read next t bytes (e ∙ ap (λ (o : Option Action). read_bytes (does next o) bytes) h.0) h.1

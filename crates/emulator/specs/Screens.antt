@@ -6,10 +6,10 @@ use Rattle.text_cells.specs.TextCells.{make, text_layer, text_glyph}
 use Rattle.text_cells.specs.declared.TextCell.{TextCell}
 use Rattle.grids.specs.Grids.{put_grid}
 use Rattle.terminal.specs.Operations.{spot, moved_on}
-use Rattle.terminal.specs.declared.spots.Spot.{Spot}
+use Rattle.places.specs.declared.Spot.{Spot}
 use Rattle.reader.specs.Steps.{stepped}
 use Rattle.reader.specs.declared.states.Action.{Action}
-use Rattle.reader.specs.declared.states.Action.TheVariants.{Nothing, Show, Right, To, SetPen}
+use Rattle.reader.specs.declared.states.Action.TheVariants.{Show, Right, To, SetPen}
 use Rattle.reader.specs.declared.states.State.{State}
 
 -- rows and columns, the grid, the cursor at a spot or unknown, the attributes of the characters to come, and where the reader stands
@@ -82,15 +82,19 @@ shows s (MadeSingles c d) = s
 
 -- what a completed character or sequence does
 abbrev pub acts : Screen → Action → Screen
-acts s Nothing = s
 acts s (Show character) = shows s (make character s.pen)
 acts s (Right n) = with_cursor (right_by s.columns s.cursor n) s
 acts s (To row column) = with_cursor (moved_to s.rows s.columns row column) s
 acts s (SetPen attributes) = with_pen attributes s
 
+-- a byte that completes nothing does nothing
+abbrev pub does : Screen → Option Action → Screen
+does s None = s
+does s (Some action) = acts s action
+
 -- one byte
 abbrev pub read_byte : Screen → ℕ → Screen
-read_byte s byte = acts (with_state (stepped s.state byte).0 s) (stepped s.state byte).1
+read_byte s byte = does (with_state (stepped s.state byte).0 s) (stepped s.state byte).1
 
 -- bytes one after another
 abbrev pub read_bytes : Screen → List ℕ → Screen
@@ -104,4 +108,4 @@ CursorOnGrid s = (at : Spot) → s.cursor ≡ Some at → (at.row < s.rows) × (
 -- bytes that complete no character and no sequence
 abbrev pub CompletesNothing : State → List ℕ → Type 0
 CompletesNothing state [] = Unit {0}
-CompletesNothing state (byte ∷ bytes) = ((stepped state byte).1 ≡ Nothing) × CompletesNothing (stepped state byte).0 bytes
+CompletesNothing state (byte ∷ bytes) = ((stepped state byte).1 ≡ None) × CompletesNothing (stepped state byte).0 bytes

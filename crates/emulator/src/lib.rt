@@ -1,16 +1,17 @@
 // The emulator: a screen that shows what the bytes sent to a terminal of ECMA-48 mean.
 #![tactic(auto)]
 
-ghost use Rattle.std.specs.Prelude.{◌≡◌, ◌<◌, [], ◌∷◌, Some};
+ghost use Rattle.std.specs.Prelude.{◌≡◌, Some};
 ghost use Rattle.reader.specs.declared.states.Action.TheVariants.{Show, Right, To};
-ghost use Rattle.emulator.specs.Screens.{read_byte, read_bytes, acts, with_state, CursorOnGrid, CompletesNothing, moved_to, right_by, put_here};
+ghost use Rattle.emulator.specs.Screens.{read_byte, read_bytes, acts, with_state, CursorOnGrid, CompletesNothing, moved_to, right_by};
 ghost use Rattle.emulator.specs.Emulators.{screen_of, first_screen, Kept};
 
 use cells::kinds::{Made, TerminalCell};
 use grids::grids::Grid;
+use places::{Size, Spot};
 use reader::states::{Action, State};
 use reader::steps::{begin_character, begin_sequence, continue_character, continue_sequence};
-use terminal::spots::{Spot, moved_on, on_grid};
+use terminal::spots::{moved_on, on_grid};
 use text_cells::TextCell;
 
 // The byte that begins a sequence.
@@ -27,123 +28,76 @@ pub struct Emulator<'a> {
     pub state: State,
 }
 
-// The spot of a row and a column counted from 1, at the edge if they lie past it; none on an empty grid.
-fn spot_of(rows: usize, columns: usize, row: u16, column: u16) -> Option<Spot>
-    ensures { result ≡ moved_to rows columns row column }
+// The spot of a row and a column, the numbers of a sequence, counted from 1; at the edge if they lie past it, none on an empty grid.
+fn spot_of(size: Size, row: u16, column: u16) -> Option<Spot>
+    ensures { result ≡ moved_to size.rows size.columns row column }
 {
-    if rows == 0 || columns == 0 {
+    if size.rows == 0 || size.columns == 0 {
         return None;
     }
     Some(Spot {
-        row: usize::from(row.saturating_sub(1)).min(rows - 1),
-        column: usize::from(column.saturating_sub(1)).min(columns - 1),
+        row: usize::from(row.saturating_sub(1)).min(size.rows - 1),
+        column: usize::from(column.saturating_sub(1)).min(size.columns - 1),
     })
 }
 
 // The spot that many columns to the right, at most in the last column.
 fn spot_right(columns: usize, spot: Spot, count: u16) -> Spot
-    requires { spot.column < columns }
     ensures { Some result ≡ right_by columns (Some spot) count }
 {
-    let most = columns - 1 - spot.column;
+    let last = columns.saturating_sub(1);
     Spot {
-        row: spot.row,
-        column: spot.column + usize::from(count).min(most),
+        column: spot.column.saturating_add(usize::from(count)).min(last),
+        ..spot
     }
 }
 
+// What each change keeps of the grid's memory (`Kept`) relates the grid before and after, so it is said of each and is no field's invariant.
 impl<'a> Emulator<'a> {
     // An emulator on a grid as it is found, with an unknown cursor and no attributes.
-    pub fn new(cells: &'a mut [TextCell], rows: usize, columns: usize) -> Emulator<'a>
+    pub fn new(cells: &'a mut [TextCell], size: Size) -> Emulator<'a>
         ensures cells { result.grid.cells.now ≡ cells.old }
-        ensures rows { result.grid.rows ≡ rows }
-        ensures columns { result.grid.columns ≡ columns }
-        ensures screen { screen_of result ≡ first_screen cells.old rows columns }
+        ensures size { result.grid.size ≡ size }
+        ensures screen { screen_of result ≡ first_screen cells.old size }
     {
         Emulator {
-            grid: Grid {
-                cells,
-                rows,
-                columns,
-            },
+            grid: Grid { cells, size },
             cursor: None,
             pen: 0,
             state: State::Plain,
         }
     }
 
+    // Its rows and columns, none on memory that does not fit them.
+    pub fn size(&self) -> Size
+        ensures rows { result.rows ≡ (screen_of self.now).rows }
+        ensures columns { result.columns ≡ (screen_of self.now).columns }
+    {
+        self.grid.size.over(self.grid.cells.len())
+    }
+
     // Where the next character goes, none if that is unknown.
-    pub fn cursor(&mut self) -> Option<Spot>
-        ensures told { result ≡ (screen_of self.old).cursor }
-        ensures same { self.new ≡ self.old }
+    pub fn cursor(&self) -> Option<Spot>
+        ensures { result ≡ (screen_of self.now).cursor }
     {
-        let rows = self.grid.rows();
-        let columns = self.grid.columns();
-        on_grid(rows, columns, self.cursor)
+        on_grid(self.size(), self.cursor)
     }
 
-    // Puts a cell at the cursor; it is dropped while that is unknown.
-    fn put(&mut self, cell: TextCell)
-        ensures screen { screen_of self.new ≡ put_here (screen_of self.old) (screen_of self.old).cursor (cell ∷ []) }
-        ensures kept { Kept self.old.grid self.new.grid }
-    {
-        let columns = self.grid.columns();
-        let Some(spot) = self.cursor() else {
-            return;
-        };
-        if self.grid.put(spot.row, spot.column, cell).is_ok() {
-            self.cursor = moved_on(columns, spot, 1);
-        }
-    }
-
-    // Puts a pair from the cursor on; it is dropped in the last column, and while the cursor is unknown.
-    fn put_pair(&mut self, left: TextCell, right: TextCell)
-        ensures screen { screen_of self.new ≡ put_here (screen_of self.old) (screen_of self.old).cursor (left ∷ right ∷ []) }
-        ensures kept { Kept self.old.grid self.new.grid }
-    {
-        let columns = self.grid.columns();
-        let Some(spot) = self.cursor() else {
-            return;
-        };
-        if self
-            .grid
-            .put_pair(spot.row, spot.column, left, right)
-            .is_ok()
-        {
-            self.cursor = moved_on(columns, spot, 2);
-        }
-    }
-
-    // Moves the cursor to the right, while it is known.
-    fn go_right(&mut self, count: u16)
-        ensures screen { screen_of self.new ≡ acts (screen_of self.old) (Right count) }
-        ensures kept { Kept self.old.grid self.new.grid }
-    {
-        let columns = self.grid.columns();
-        if let Some(spot) = self.cursor() {
-            self.cursor = Some(spot_right(columns, spot, count));
-        }
-    }
-
-    // Moves the cursor to a row and a column, counted from 1.
-    fn go_to(&mut self, row: u16, column: u16)
-        ensures screen { screen_of self.new ≡ acts (screen_of self.old) (To row column) }
-        ensures kept { Kept self.old.grid self.new.grid }
-    {
-        let rows = self.grid.rows();
-        let columns = self.grid.columns();
-        self.cursor = spot_of(rows, columns, row, column);
-    }
-
-    // Shows a character with the pen's attributes; one without width is dropped.
+    // Shows a character with the pen's attributes. It is dropped if it has no width or passes the last column, and while the cursor is unknown.
     fn show(&mut self, character: u32)
         ensures screen { screen_of self.new ≡ acts (screen_of self.old) (Show character) }
         ensures kept { Kept self.old.grid self.new.grid }
     {
-        match TextCell::make(character, self.pen) {
-            Made::Single(cell) => self.put(cell),
-            Made::Pair(left, right) => self.put_pair(left, right),
-            Made::Nothing | Made::Singles(_, _) => {}
+        let Some(spot) = self.cursor() else {
+            return;
+        };
+        let (put, count) = match TextCell::make(character, self.pen) {
+            Made::Single(cell) => (self.grid.put(spot, cell), 1),
+            Made::Pair(left, right) => (self.grid.put_pair(spot, left, right), 2),
+            Made::Nothing | Made::Singles(_, _) => return,
+        };
+        if put.is_ok() {
+            self.cursor = moved_on(self.size().columns, spot, count);
         }
     }
 
@@ -153,10 +107,12 @@ impl<'a> Emulator<'a> {
         ensures kept { Kept self.old.grid self.new.grid }
     {
         match action {
-            Action::Nothing => {}
             Action::Show(character) => self.show(character),
-            Action::Right(count) => self.go_right(count),
-            Action::To(row, column) => self.go_to(row, column),
+            Action::Right(count) => {
+                let columns = self.size().columns;
+                self.cursor = self.cursor().map(|spot| spot_right(columns, spot, count));
+            }
+            Action::To(row, column) => self.cursor = spot_of(self.size(), row, column),
             Action::SetPen(attributes) => self.pen = attributes,
         }
     }
@@ -173,7 +129,9 @@ impl<'a> Emulator<'a> {
             (State::InCharacter(gathered), _) => continue_character(gathered, byte),
         };
         self.state = state;
-        self.act(action);
+        if let Some(action) = action {
+            self.act(action);
+        }
     }
 
     // Reads bytes one after another.

@@ -1,3 +1,4 @@
 -- What the contracts of this crate cite.
 pub mod Faults
 pub mod Refusals
+pub mod Words

@@ -1,53 +1,54 @@
 // The refusals of the library: each call that refuses answers one of these, with its number and layer.
 #![tactic(auto)]
 
-ghost use Rattle.std.specs.Prelude.{◌≡◌, ◌==◌};
+ghost use Rattle.std.specs.Prelude.{◌≡◌, Some};
 ghost use Rattle.faults.specs.Faults.{number_of, layer_of};
-ghost use Rattle.std.specs.Cmp.Rules.{comparing};
-ghost use Rattle.std.proofs.Common.{rules};
-ghost use Rattle.std.specs.Cmp as Keys;
+ghost use Rattle.faults.specs.Words.{layer_word, refusal_text};
 
-// Why a call was refused.
-#[derive(Clone, Copy, Eq, Debug)]
+use std::error::Error;
+use std::fmt;
+
+// Why a call was refused, with the number by which scripts and printed answers name it.
+#[derive(Debug, Clone, Copy, PartialEq, Eq)]
 pub enum Fault {
     // rows, columns or a side outside their limits
-    BadSize,
+    BadSize = 1,
     // as many windows as a screen can have
-    TooManyWindows,
+    TooManyWindows = 2,
     // window memory of too many cells to record, or with too few left
-    CellCount,
+    CellCount = 3,
     // no window has that number
-    NoWindow,
+    NoWindow = 4,
     // a spot or a rectangle that does not lie inside
-    Outside,
+    Outside = 5,
     // no panel has that number
-    NoPanel,
+    NoPanel = 6,
     // the panel is shown already
-    PanelShown,
+    PanelShown = 7,
     // a spot, a row or a panel that does not lie on the screen
-    OffScreen,
+    OffScreen = 8,
     // the panel is hidden
-    PanelHidden,
+    PanelHidden = 9,
     // a character that takes no column
-    NoWidth,
+    NoWidth = 10,
     // a text of too many characters, or wider than the rest of the row
-    TooLong,
+    TooLong = 11,
     // attributes above 15
-    BadAttributes,
+    BadAttributes = 12,
     // a side too short for a box
-    TooSmallForBox,
+    TooSmallForBox = 13,
     // sizes that should be equal and above 0
-    SizesDiffer,
+    SizesDiffer = 14,
     // memory of another length than recorded
-    MemoryLength,
+    MemoryLength = 15,
     // a spot that is not on the terminal's grid
-    OffGrid,
+    OffGrid = 21,
     // less line room than an operation may need
-    LineFull,
+    LineFull = 22,
     // no drawable single, or no halves that belong together
-    NotDrawable,
+    NotDrawable = 23,
     // the terminal's cursor is at no known spot
-    CursorUnknown,
+    CursorUnknown = 24,
 }
 
 // Which part of the library refuses.
@@ -62,27 +63,7 @@ impl Fault {
     pub fn number(self) -> u8
         ensures { result ≡ number_of self }
     {
-        match self {
-            Fault::BadSize => 1,
-            Fault::TooManyWindows => 2,
-            Fault::CellCount => 3,
-            Fault::NoWindow => 4,
-            Fault::Outside => 5,
-            Fault::NoPanel => 6,
-            Fault::PanelShown => 7,
-            Fault::OffScreen => 8,
-            Fault::PanelHidden => 9,
-            Fault::NoWidth => 10,
-            Fault::TooLong => 11,
-            Fault::BadAttributes => 12,
-            Fault::TooSmallForBox => 13,
-            Fault::SizesDiffer => 14,
-            Fault::MemoryLength => 15,
-            Fault::OffGrid => 21,
-            Fault::LineFull => 22,
-            Fault::NotDrawable => 23,
-            Fault::CursorUnknown => 24,
-        }
+        self as u8
     }
 
     // Whether the screen or the terminal below it refuses.
@@ -97,13 +78,25 @@ impl Fault {
     }
 }
 
-// Refusals are equal if their numbers are.
-impl PartialEq for Fault {
-    ghost eq = { λ x y. (number_of x == number_of y) };
+impl fmt::Display for FaultLayer {
+    ghost output = { λ l. Some (layer_word l) };
 
-    ghost laws = { Keys.partial_equiv_from_equiv (Prim.search (comparing, rules)) };
-
-    fn eq(&self, other: &Fault) -> bool {
-        self.number() == other.number()
+    fn fmt<W: fmt::Write>(&self, f: &mut fmt::Formatter<W>) -> fmt::Result {
+        f.write_str(match self {
+            FaultLayer::Screen => "screen",
+            FaultLayer::Terminal => "terminal",
+        })
     }
 }
+
+impl fmt::Display for Fault {
+    ghost output = { λ f. Some (refusal_text f) };
+
+    fn fmt<W: fmt::Write>(&self, f: &mut fmt::Formatter<W>) -> fmt::Result {
+        let number = self.number();
+        let layer = self.layer();
+        write!(f, "refused {number} {layer}")
+    }
+}
+
+impl Error for Fault {}

@@ -1,14 +1,12 @@
 -- The cells that are put at once: at least one, and how they are written over a part of a row.
-use Rattle.std.proofs.Common.{◌≡◌, ℕ, zero, suc, ◌+◌, ◌<◌, List, [], ◌∷◌, ◌++◌, length, take, set, refl, ap, ◌∙◌, add-one, arith}
+use Rattle.std.proofs.Common.{◌≡◌, ℕ, zero, suc, ◌+◌, ◌<◌, List, [], ◌∷◌, ◌++◌, length, take, set, Option, Some, None, refl, ap, ◌∙◌, add-one, arith}
 use borrow.Rule.Slice.PartMut.{put_mid}
 use Rattle.std.proofs.lemmas.List.{set_split, drop-drop}
-use Rattle.grids.specs.CellsPut.{cells_in}
-use Rattle.grids.specs.declared.putting.Cells.{Cells}
-use Rattle.grids.specs.declared.putting.Cells.TheVariants.{One, Two}
+use Rattle.grids.specs.CellsPut.{with_second}
 
-pub some_cell : {C : Type 0} (new : Cells C) → 0 < length (cells_in new)
-some_cell (One c) = omega arith
-some_cell (Two c d) = omega arith
+pub some_cell : {C : Type 0} (c : C) (second : Option C) → 0 < length (with_second c second)
+some_cell c None = omega arith
+some_cell c (Some d) = omega arith
 
 -- one write
 pub one_write : {C : Type 0} (row : List C) (from : ℕ) (c : C) → from < length row → set row from c ≡ put_mid from 1 row (c ∷ [])

@@ -1,3 +1,3 @@
 -- Lemmas that several proofs of this crate cite.
-pub mod CellsPut
 pub mod PutsLawful
+pub mod CellsPut

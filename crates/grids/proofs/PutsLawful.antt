@@ -54,14 +54,14 @@ module _ {C : Type 0} (l : Layer C) (g : Glyph C) (laws : Lawful l g) (new : Lis
       let on : (ltb row (height t) ≡ true) × (leb (column + length new) (width t) ≡ true) = and_parts _ _ (not-false _ (none_cond _ _ e)) in
       elim (cases_Bool (fitting t)) [
         | inl fit ↦
-            let grid : grid_rows t ≡ rows_of t.rows t.columns t.cells.now = cond-true (fitting t) _ [] fit in
-            let tall : row < t.rows = ltb-true _ _ (rw (cond-true (fitting t) t.rows 0 fit) at on.0) in
-            let wide : column + length new ≤ t.columns = leb-true _ _ (rw (cond-true (fitting t) t.columns 0 fit) at on.1) in
+            let grid : grid_rows t ≡ rows_of t.size.rows t.size.columns t.cells.now = cond-true (fitting t) _ [] fit in
+            let tall : row < t.size.rows = ltb-true _ _ (rw (cond-true (fitting t) t.size.rows 0 fit) at on.0) in
+            let wide : column + length new ≤ t.size.columns = leb-true _ _ (rw (cond-true (fitting t) t.size.columns 0 fit) at on.1) in
             let size = eqb-true _ _ fit in
             rw (into.put, grid)
-            (put_laws (rows_of t.rows t.columns t.cells.now) row column (omega (arith, length-rows t.rows t.columns t.cells.now))
-            (omega (arith, length-row t.rows t.columns t.cells.now row tall (omega arith))))
-        | inr unfit ↦ absurd (let none : row < 0 = ltb-true _ _ (rw (cond-false (fitting t) t.rows 0 unfit) at on.0) in omega arith)
+            (put_laws (rows_of t.size.rows t.size.columns t.cells.now) row column (omega (arith, length-rows t.size.rows t.size.columns t.cells.now))
+            (omega (arith, length-row t.size.rows t.size.columns t.cells.now row tall (omega arith))))
+        | inr unfit ↦ absurd (let none : row < 0 = ltb-true _ _ (rw (cond-false (fitting t) t.size.rows 0 unfit) at on.0) in omega arith)
       ]
 
   pub lawfully : (t u : Grid C) (row column : ℕ) (r : Result Unit Fault) → fault_of r ≡ put_refusal (height t) (width t) row column (length new) → MatchResult r (λ _. PutInto l g t u row column new) (λ _. u ≡ t) → Lawfully l g t u row column new r

@@ -8,7 +8,7 @@ ghost use Rattle.lines.specs.Sending.{written, sent_bytes, room_of, send_refusal
 
 use faults::Fault;
 
-// The memory, and how many bytes were sent into it since it was empty.
+// The memory, and how many bytes were sent into it since it was empty: a slice with a length beside, since it is the caller's memory.
 #[derive(Drop)]
 pub struct Line<'a> {
     pub bytes: &'a mut [u8],
@@ -24,18 +24,6 @@ fn write_bytes(bytes: &mut [u8], from: usize, new: &[u8])
     bytes[from..end].copy_from_slice(new);
 }
 
-// The byte at an index of those that were sent, none past them.
-fn read_byte(bytes: &mut [u8], sent: usize, index: usize) -> Option<u8>
-    ensures told { result ≡ slice_get (sent_bytes bytes.old sent) index }
-    ensures same { bytes.new ≡ bytes.old }
-{
-    if index < sent && index < bytes.len() {
-        Some(bytes[index])
-    } else {
-        None
-    }
-}
-
 impl<'a> Line<'a> {
     // An empty line over memory, whatever that holds.
     pub fn new(bytes: &'a mut [u8]) -> Line<'a>
@@ -46,9 +34,8 @@ impl<'a> Line<'a> {
     }
 
     // How many bytes it takes before it is full.
-    pub fn room(&mut self) -> usize
-        ensures told { result ≡ room_of self.old }
-        ensures same { self.new ≡ self.old }
+    pub fn room(&self) -> usize
+        ensures { result ≡ room_of self.now }
     {
         self.bytes.len().saturating_sub(self.sent)
     }
@@ -58,23 +45,26 @@ impl<'a> Line<'a> {
         ensures refusal { fault_of result ≡ send_refusal self.old (length new.now) }
         ensures effect { MatchResult result (λ _. Sent self.old self.new new.now) (λ _. self.new ≡ self.old) }
     {
-        let sent = self.sent;
-        let length = self.bytes.len();
-        if sent > length || new.len() > length - sent {
+        if self.sent > self.bytes.len() || new.len() > self.room() {
             return Err(Fault::LineFull);
         }
-        write_bytes(self.bytes, sent, new);
-        self.sent = sent + new.len();
+        write_bytes(self.bytes, self.sent, new);
+        self.sent += new.len();
         Ok(())
     }
 
-    // The byte at an index of those that were sent, none past them.
-    pub fn byte(&mut self, index: usize) -> Option<u8>
-        ensures told { result ≡ slice_get (sent_bytes self.old.bytes.now self.old.sent) index }
-        ensures same { self.new ≡ self.old }
+    // The bytes that were sent, oldest first.
+    pub fn sent_bytes(&self) -> &[u8]
+        ensures { result.now ≡ sent_bytes self.now.bytes.now self.now.sent }
     {
-        let sent = self.sent;
-        read_byte(self.bytes, sent, index)
+        &self.bytes[..self.sent.min(self.bytes.len())]
+    }
+
+    // The byte at an index of those that were sent, none past them.
+    pub fn byte(&self, index: usize) -> Option<u8>
+        ensures { result ≡ slice_get (sent_bytes self.now.bytes.now self.now.sent) index }
+    {
+        self.sent_bytes().get(index).copied()
     }
 
     // Empties the line: the memory stays as it is, and nothing in it counts as sent.

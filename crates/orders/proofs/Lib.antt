@@ -1,3 +1,3 @@
 -- Lemmas on orders.
-pub mod OrderLaws
 pub mod Rotations
+pub mod OrderLaws

@@ -1,10 +1,10 @@
 -- The order of the shown panels, from bottom to top, as a list of their numbers.
-use Rattle.std.specs.Prelude.{ℕ, ◌+◌, Bool, false, cond, not, ◌&&◌, ◌||◌, List, [], ◌∷◌, ◌++◌, ◌==◌, nat_lt}
+use Rattle.std.specs.Prelude.{ℕ, ◌+◌, Bool, cond, not, ◌&&◌, List, [], ◌∷◌, ◌++◌, ◌==◌, nat_lt}
+use Rattle.std.specs.List.{list_any}
 
 -- is a number in the order?
 abbrev pub has : ℕ → List ℕ → Bool
-has number [] = false
-has number (n ∷ order) = n == number || has number order
+has number order = list_any (λ n. n == number) order
 
 -- how often it is
 abbrev pub times : ℕ → List ℕ → ℕ

@@ -1,28 +1,10 @@
 // Panels come into the order, leave it and change their places in it.
-ghost use Rattle.std.specs.Prelude.{◌≡◌, ◌+◌, ◌<◌, ◌≤◌, false, [], ◌∷◌, ◌++◌, length, take, drop, MatchOption, slice_index};
-ghost use Rattle.std.specs.List.{slice_get};
+ghost use Rattle.std.specs.Prelude.{◌≡◌, ◌==◌, [], length};
+ghost use Rattle.std.specs.List.{position, slice_get};
 ghost use Rattle.orders.specs.Orders.{has, without, shown_on_top, raised, lowered};
 ghost use Rattle.orders.specs.Kept.{order_of};
 
 use crate::records::{MOST_PANELS, Order};
-
-// Moves the number at a place to the end of the first ones.
-fn move_to_end(numbers: &mut [usize], place: usize, end: usize)
-    requires place { place < end }
-    requires end { end ≤ length numbers.old }
-    ensures { take end numbers.new ≡ take place numbers.old ++ (drop (place + 1) (take end numbers.old) ++ slice_index numbers.old place ∷ []) }
-{
-    numbers[place..end].rotate_left(1);
-}
-
-// Moves the number at a place to the front.
-fn move_to_front(numbers: &mut [usize], place: usize, end: usize)
-    requires place { place < end }
-    requires end { end ≤ length numbers.old }
-    ensures { take end numbers.new ≡ slice_index numbers.old place ∷ (take place numbers.old ++ drop (place + 1) (take end numbers.old)) }
-{
-    numbers[0..place + 1].rotate_right(1);
-}
 
 impl Order {
     // No panel is shown.
@@ -35,26 +17,25 @@ impl Order {
         }
     }
 
+    // The numbers of the shown panels, from bottom to top.
+    pub fn numbers(&self) -> &[usize]
+        ensures { result.now ≡ order_of self.now }
+    {
+        &self.numbers[..self.shown]
+    }
+
     // Where a number is in the order.
     fn place(&self, number: usize) -> Option<usize>
-        ensures { MatchOption result (has number (order_of self.now) ≡ false) (λ i. (i < self.now.shown) × (slice_index self.now.numbers i ≡ number)) }
+        ensures { result ≡ position (λ n. n == number) (order_of self.now) }
     {
-        for index in 0..self.shown {
-            if self.numbers[index] == number {
-                return Some(index);
-            }
-        }
-        None
+        self.numbers().iter().position(|shown| *shown == number)
     }
 
     // Is a panel shown?
     pub fn contains(&self, number: usize) -> bool
         ensures { result ≡ has number (order_of self.now) }
     {
-        match self.place(number) {
-            Some(_) => true,
-            None => false,
-        }
+        self.numbers().contains(&number)
     }
 
     // How many panels are shown.
@@ -68,11 +49,7 @@ impl Order {
     pub fn number(&self, place: usize) -> Option<usize>
         ensures { result ≡ slice_get (order_of self.now) place }
     {
-        if place < self.shown {
-            Some(self.numbers[place])
-        } else {
-            None
-        }
+        self.numbers().get(place).copied()
     }
 
     // Puts a panel on top; one that is shown stays where it is, and numbers from 16 on are no panels.
@@ -85,12 +62,12 @@ impl Order {
         }
     }
 
-    // Takes a panel out.
+    // Takes a panel out: it comes to the top, and no panel is shown there any more.
     pub fn hide(&mut self, number: usize)
         ensures { order_of self.new ≡ without number (order_of self.old) }
     {
-        if let Some(place) = self.place(number) {
-            move_to_end(&mut self.numbers, place, self.shown);
+        if self.contains(number) {
+            self.raise(number);
             self.shown -= 1;
         }
     }
@@ -99,9 +76,8 @@ impl Order {
     pub fn raise(&mut self, number: usize)
         ensures { order_of self.new ≡ raised number (order_of self.old) }
     {
-        let top = self.shown;
         if let Some(place) = self.place(number) {
-            move_to_end(&mut self.numbers, place, top);
+            self.numbers[place..self.shown].rotate_left(1);
         }
     }
 
@@ -110,7 +86,7 @@ impl Order {
         ensures { order_of self.new ≡ lowered number (order_of self.old) }
     {
         if let Some(place) = self.place(number) {
-            move_to_front(&mut self.numbers, place, self.shown);
+            self.numbers[0..place + 1].rotate_right(1);
         }
     }
 }

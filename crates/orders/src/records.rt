@@ -6,9 +6,10 @@ ghost use Rattle.orders.specs.Orders.{times};
 pub const MOST_PANELS: usize = 16;
 
 // The numbers of the shown panels, and how many there are: each below 16, none twice.
+// An array and a length, since an order is copied as a whole and takes no memory of its own.
 #[derive(Clone, Copy)]
 pub struct Order {
-    pub(crate) numbers: [usize; 16],
+    pub(crate) numbers: [usize; MOST_PANELS],
     pub(crate) shown: usize,
     ghost sixteen: { length numbers ≡ 16 },
     ghost few: { shown ≤ 16 },

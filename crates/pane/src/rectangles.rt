@@ -1,2 +1,2 @@
 // The rectangle that a pane is made on.
-pub use pane_parts::rectangles::Rectangle;
+pub use places::Rectangle;

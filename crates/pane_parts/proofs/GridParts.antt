@@ -1,6 +1,7 @@
 -- The part of a grid inside a rectangle, and what a put leaves of it.
 use Rattle.std.proofs.Common.{◌≡◌, ℕ, zero, suc, ◌+◌, ◌-◌, ◌<◌, ◌≤◌, Bool, true, false, ◌&&◌, List, [], ◌∷◌, map, length, get_or, take, drop, set, sym, refl, ap, ◌∙◌, add-suc, suc-add, arith}
 use Rattle.std.specs.List.{slice_get}
+use Rattle.std.proofs.Math.Seq.{take-set-lt}
 use Rattle.std.proofs.lemmas.List.{same_lists, length-take-le, length-drop, get_or-take, get_or-drop, get_or-map, drop-set-add, map-set, length-map}
 use Rattle.std.proofs.lemmas.Bool.Decides.{nat_tests}
 use Rattle.cells.specs.Kinds.{Layer, Glyph}
@@ -9,7 +10,7 @@ use Rattle.put_rule.specs.Putting.{among, holds, loses_left, loses_right, put_at
 use Rattle.put_rule.specs.Grids.{row_at, put_grid}
 use Rattle.put_rule.proofs.PutRows.{length-put, get_or-put}
 use Rattle.pane_parts.specs.Panes.{part}
-use Rattle.pane_parts.specs.declared.rectangles.Rectangle.{Rectangle}
+use Rattle.places.specs.declared.Rectangle.{Rectangle}
 
 -- a cut of a row: w columns from `left` on
 abbrev pub cut : {C : Type 0} → ℕ → ℕ → List C → List C
@@ -73,13 +74,6 @@ module _ {C : Type 0} (l : Layer C) (g : Glyph C) (left w : ℕ) (row : List C) 
       ∙ same_put k inner
       ∙ sym (get_or-put l g (cut left w row) c new k d (omega (arith, size))))
 
-module _ {X : Type 0} where
-  take_set_within : (h : ℕ) (xs : List X) (i : ℕ) (x : X) → take h (set xs i x) ≡ set (take h xs) i x
-  take_set_within zero xs i x = refl
-  take_set_within (suc h) [] i x = refl
-  take_set_within (suc h) (y ∷ xs) zero x = refl
-  take_set_within (suc h) (y ∷ xs) (suc i) x = ap (λ (ys : List X). y ∷ ys) (take_set_within h xs i x)
-
 module _ {C : Type 0} (area : Rectangle) where
   -- a row of the part
   pub part_row : (grid : List (List C)) (r : ℕ) → r < area.height → area.top + area.height ≤ length grid → row_at (part area grid) r ≡ cut area.left area.width (row_at grid (area.top + r))
@@ -92,14 +86,14 @@ module _ {C : Type 0} (area : Rectangle) where
   pub length_part : (grid : List (List C)) → area.top + area.height ≤ length grid → length (part area grid) ≡ area.height
   length_part grid tall = length-map _ _ ∙ length-take-le area.height (drop area.top grid) (omega (arith, length-drop area.top grid))
 
-  part_set : (grid : List (List C)) (r : ℕ) (row : List C) → part area (set grid (area.top + r) row) ≡ set (part area grid) r (cut area.left area.width row)
-  part_set grid r row =
+  part_set : (grid : List (List C)) (r : ℕ) (row : List C) → r < area.height → part area (set grid (area.top + r) row) ≡ set (part area grid) r (cut area.left area.width row)
+  part_set grid r row h =
       ap (λ (rows : List (List C)). map (cut area.left area.width) (take area.height rows)) (drop-set-add area.top grid r row)
-      ∙ ap (map (cut area.left area.width)) (take_set_within area.height (drop area.top grid) r row)
+      ∙ ap (map (cut area.left area.width)) (take-set-lt area.height (drop area.top grid) r row h)
       ∙ map-set (cut area.left area.width) (take area.height (drop area.top grid)) r row
 
   -- what a put leaves of the part is the put into the part
   pub put_part : (l : Layer C) (g : Glyph C) (grid : List (List C)) (r c : ℕ) (new : List C) → r < area.height → area.top + area.height ≤ length grid → area.left + area.width ≤ length (row_at grid (area.top + r)) → c + length new ≤ area.width → part area (put_grid l g grid (area.top + r) (area.left + c) new) ≡ put_grid l g (part area grid) r c new
   put_part l g grid r c new h tall wide fit =
-      part_set grid r _
+      part_set grid r _ h
       ∙ ap (set (part area grid) r) (put_cut l g area.left area.width (row_at grid (area.top + r)) c new wide fit ∙ ap (λ (row : List C). put_row l g row c new) (sym (part_row grid r h tall)))

@@ -6,10 +6,10 @@ use Rattle.faults.specs.declared.Fault.{Fault}
 use Rattle.cells.specs.Kinds.{Layer, Glyph}
 use Rattle.put_rule.specs.Grids.{row_at, put_grid}
 use Rattle.terminal.specs.Meanings.{Meaning, Sound}
-use Rattle.terminal.specs.Operations.{Operation, Put, PutPair, refusal, row_of, column_of, spot, moved_on, put_cells, perform, with_room, Effect}
-use Rattle.terminal.specs.declared.spots.Spot.{Spot}
+use Rattle.terminal.specs.Operations.{Operation, PutPair, refusal, row_of, column_of, spot, moved_on, put_cells, perform, with_room, Effect}
+use Rattle.places.specs.declared.Spot.{Spot}
 use Rattle.pane_parts.specs.Panes.{fits_in, pane_fits, part, inside, seen_from, pane_rows, pane_columns, pane_of}
-use Rattle.pane_parts.specs.declared.rectangles.Rectangle.{Rectangle}
+use Rattle.places.specs.declared.Rectangle.{Rectangle}
 use Rattle.pane_parts.proofs.GridParts.{length_cut, part_row, length_part, put_part}
 
 -- a cursor that the pane knows: at a spot inside the rectangle, which is fit
@@ -136,13 +136,7 @@ module _ {C : Type 0} (m : Meaning C) (area : Rectangle) (k : Seen area (pane_fi
     room_taken = e.room_taken;
   }
 
-  -- the pane refuses to put just where the terminal below does, but for its own last column
-  pub put_refused : (g : Glyph C) (c : C) → refusal g m (Put c) ≡ refusal g (pane_of m area) (Put c)
-  put_refused g c =
-      let below : is_some m.cursor ≡ true = ap is_some k.is in
-      let here : is_some (pane_of m area).cursor ≡ true = ap is_some seen_at in
-      rw (below, here)
-
+  -- the pane refuses to put a pair just where the terminal below does, but for its own last column
   pub pair_refused : (g : Glyph C) (c d : C) → suc (k.at.column - area.left) < area.width → refusal g m (PutPair c d) ≡ refusal g (pane_of m area) (PutPair c d)
   pair_refused g c d narrow =
       let fit = fit_parts area m.rows m.columns k.fits in

@@ -2,8 +2,8 @@
 use Rattle.std.specs.Prelude.{ℕ, ◌+◌, ◌-◌, Bool, cond, ◌&&◌, List, [], map, take, drop, Some, None, Option, nat_le, nat_lt}
 use Rattle.terminal.specs.Meanings.{Meaning}
 use Rattle.terminal.specs.Operations.{spot}
-use Rattle.terminal.specs.declared.spots.Spot.{Spot}
-use Rattle.pane_parts.specs.declared.rectangles.Rectangle.{Rectangle}
+use Rattle.places.specs.declared.Spot.{Spot}
+use Rattle.places.specs.declared.Rectangle.{Rectangle}
 
 -- the rectangle is not empty and lies inside rows × columns
 abbrev pub fits_in : Rectangle → ℕ → ℕ → Bool

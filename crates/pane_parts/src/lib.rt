@@ -1,4 +1,2 @@
-// What a pane means by the terminal below it, as definitions and their laws.
+// What a pane means by the terminal below it, as definitions and their laws: no code of its own.
 #![tactic(auto)]
-
-pub mod rectangles;

@@ -1,17 +1,25 @@
 -- The panels of a screen: each by its number, and the order of the shown ones from bottom to top.
-use Rattle.std.specs.Prelude.{ℕ, Bool, false, cond, ◌||◌, List, [], ◌∷◌, replicate, is_some, Some, None, Option, slice_index_or, slice_set}
+use Rattle.std.specs.Prelude.{ℕ, Bool, cond, List, [], ◌∷◌, map, replicate, is_some, Some, None, Option, slice_index_or, slice_set}
+use Rattle.std.specs.List.{list_any}
+use Rattle.std.specs.Option.{option_map}
+use Rattle.places.specs.Places.{spot}
 use Rattle.orders.specs.Orders.{has}
 use Rattle.orders.specs.Kept.{order_of}
 use Rattle.panels.specs.Places.{is_small, shows}
 use Rattle.panels.specs.declared.panel.Panel.{Panel}
+use Rattle.panels.specs.declared.small.SmallPanel.{SmallPanel}
 use Rattle.panels.specs.declared.records.Panels.{Panels}
 
 pub record Deck : Type 0 where
   pub given : List (Option Panel)
   pub order : List ℕ
 
+-- the panel that is kept small, none if none is
+abbrev pub panel_in : Option SmallPanel → Option Panel
+panel_in given = option_map (λ s. s.panel) given
+
 abbrev pub deck_of : Panels → Deck
-deck_of p = record { given = p.given; order = order_of p.order }
+deck_of p = record { given = map panel_in p.given; order = order_of p.order }
 
 abbrev pub no_panels : Deck
 no_panels = record { given = replicate 16 None; order = [] }
@@ -28,8 +36,7 @@ is_shown d number = has number d.order
 
 -- a number of the order for which p holds
 abbrev pub any : (ℕ → Bool) → List ℕ → Bool
-any p [] = false
-any p (n ∷ order) = p n || any p order
+any p order = list_any p order
 
 -- the topmost number of the order for which p holds
 abbrev pub or_else : Option ℕ → Option ℕ → Option ℕ
@@ -50,7 +57,7 @@ with_panel d number p = cond (is_small (Some p)) (record { given = slice_set d.g
 
 -- a panel with another place
 abbrev pub moved_to : Panel → ℕ → ℕ → Panel
-moved_to p row column = record { window = p.window; view = p.view; row = row; column = column }
+moved_to p row column = record { window = p.window; view = p.view; at = spot row column }
 
 abbrev pub with_place : Deck → ℕ → Option Panel → ℕ → ℕ → Deck
 with_place d number None row column = d

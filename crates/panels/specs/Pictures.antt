@@ -1,5 +1,5 @@
 -- What is seen of window memory at each spot: the cell of the topmost shown panel that covers the spot with a cell that is not clear, else the blank.
-use Rattle.std.specs.Prelude.{ℕ, Bool, not, ◌&&◌, List, Some, None, Option, slice_index_or}
+use Rattle.std.specs.Prelude.{ℕ, Bool, cond, not, ◌&&◌, List, Some, None, Option, slice_index_or}
 use Rattle.cells.specs.Kinds.{Layer}
 use Rattle.panels.specs.Places.{covers, spot_address}
 use Rattle.panels.specs.Decks.{Deck, panel_of, topmost}
@@ -13,6 +13,10 @@ module _ {C : Type 0} (l : Layer C) (memory : List C) where
   -- it covers the spot with a cell that is not clear
   abbrev pub is_seen : Option Panel → ℕ → ℕ → Bool
   is_seen p row column = covers p row column && not (l.clear (cell_of_panel p row column))
+
+  -- that cell, none where it is not seen
+  abbrev pub seen_cell : Option Panel → ℕ → ℕ → Option C
+  seen_cell p row column = cond (is_seen p row column) (Some (cell_of_panel p row column)) None
 
   -- the topmost such panel
   abbrev pub top_of : Deck → ℕ → ℕ → Option ℕ

@@ -6,4 +6,5 @@ pub mod covering;
 pub mod panel;
 pub mod records;
 pub mod shown;
+mod small;
 pub mod touch_calls;

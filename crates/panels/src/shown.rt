@@ -1,50 +1,13 @@
 // Panels are given, shown and moved.
-ghost use Rattle.std.specs.Prelude.{◌≡◌, ◌&&◌, replicate, Some, None};
-ghost use Rattle.areas.specs.Addresses.{ends_below};
+ghost use Rattle.std.specs.Prelude.{◌≡◌};
 ghost use Rattle.orders.specs.Orders.{without, shown_on_top, raised, lowered};
-ghost use Rattle.panels.specs.Places.{is_small};
 ghost use Rattle.panels.specs.Decks.{deck_of, no_panels, panel_of, is_shown, with_panel, with_place, with_order};
 
 use crate::panel::Panel;
 use crate::records::Panels;
-use areas::Area;
+use crate::small::{SmallPanel, is_small};
 use orders::records::{MOST_PANELS, Order};
-
-// The most cells that window memory has, and the most rows and columns of a screen.
-const MOST_CELLS: usize = 65535;
-
-const MOST_ROWS: usize = 64;
-
-const MOST_COLUMNS: usize = 128;
-
-// Does a view end in the first 65,535 cells, and does no row of it reach into the next?
-fn is_view(view: Area) -> bool
-    ensures { result ≡ ends_below 65535 view }
-{
-    if view.height == 0 || view.width == 0 || view.width > view.pitch {
-        return false;
-    }
-    let last = view
-        .base
-        .saturating_add((view.height - 1).saturating_mul(view.pitch));
-    last.saturating_add(view.width) <= MOST_CELLS
-}
-
-// Is a panel small enough to lie on a screen?
-fn is_small(panel: Panel) -> bool
-    ensures { result ≡ is_small (Some panel) }
-{
-    is_view(panel.view)
-        && panel.row.saturating_add(panel.view.height) <= MOST_ROWS
-        && panel.column.saturating_add(panel.view.width) <= MOST_COLUMNS
-}
-
-// No number was given a panel.
-fn none_given() -> [Option<Panel>; 16]
-    ensures { result ≡ replicate 16 None }
-{
-    [None; MOST_PANELS]
-}
+use places::Spot;
 
 impl Panels {
     // No panels.
@@ -52,7 +15,7 @@ impl Panels {
         ensures { deck_of result ≡ no_panels }
     {
         Panels {
-            given: none_given(),
+            given: [None; MOST_PANELS],
             order: Order::new(),
         }
     }
@@ -61,27 +24,17 @@ impl Panels {
     pub fn give(&mut self, number: usize, panel: Panel)
         ensures { deck_of self.new ≡ with_panel (deck_of self.old) number panel }
     {
-        if number >= MOST_PANELS {
-            return;
-        }
-        if is_small(panel) {
-            self.given[number] = Some(panel);
+        if number < MOST_PANELS && is_small(panel) {
+            self.given[number] = Some(SmallPanel { panel });
         }
     }
 
     // Gives a panel another place, if it fits there on a screen.
-    pub fn relocate(&mut self, number: usize, row: usize, column: usize)
-        ensures { deck_of self.new ≡ with_place (deck_of self.old) number (panel_of (deck_of self.old) number) row column }
+    pub fn relocate(&mut self, number: usize, to: Spot)
+        ensures { deck_of self.new ≡ with_place (deck_of self.old) number (panel_of (deck_of self.old) number) to.row to.column }
     {
         if let Some(panel) = self.panel(number) {
-            let Panel { window, view, .. } = panel;
-            let moved = Panel {
-                window,
-                view,
-                row,
-                column,
-            };
-            self.give(number, moved);
+            self.give(number, Panel { at: to, ..panel });
         }
     }
 

@@ -1,6 +1,6 @@
 -- Lemmas that the proofs of this crate cite.
-pub mod Overlay
 pub mod Columns
-pub mod Scalars
-pub mod Shown
+pub mod Overlay
 pub mod Numeric
+pub mod Reading
+pub mod Shown

@@ -1,23 +1,19 @@
--- The text that shows a row, one cell at a time.
-use Rattle.std.proofs.Common.{◌≡◌, ℕ, ◌+◌, ◌<◌, List, [], ◌∷◌, ◌++◌, length, get_or, take, sym, ap, ◌∙◌}
-use lib.Utf8.{encode, encodes}
-use Rattle.std.proofs.lemmas.List.{append-nil}
-use Rattle.std.proofs.lemmas.Str.{encodes-append}
-use Rattle.text_cells.specs.declared.TextCell.{TextCell}
+-- The characters that show a row, one cell after another.
+use Rattle.std.proofs.Common.{◌≡◌, ℕ, List, [], ◌∷◌, Option, refl, arith}
+use Rattle.std.specs.List.{slice_get, filter_map}
+use Rattle.std.specs.Option.{option_to_list}
+use Rattle.std.proofs.lemmas.Grind.{common_steps}
+use Rattle.cells.specs.Kinds.{Glyph}
 use Rattle.pick_list.specs.Showing.{shown_cell, shown_row}
-use Rattle.pick_list.proofs.Overlay.{joined_take_more}
 
-module _ (row : List TextCell) (i : ℕ) (d : TextCell) where
-  shown_more : (cs : List ℕ) → i < length row → cs ≡ shown_cell (get_or row i d) → encodes (shown_row (take i row)) ++ encodes cs ≡ encodes (shown_row (take (i + 1) row))
-  shown_more cs h e =
-      ap (λ (xs : List ℕ). encodes (shown_row (take i row)) ++ encodes xs) e ∙ sym (encodes-append (shown_row (take i row)) (shown_cell (get_or row i d)))
-      ∙ ap encodes (sym (joined_take_more shown_cell row i d h))
+pub first_of : (o : Option ℕ) (cs : List ℕ) → option_to_list o ≡ cs → o ≡ slice_get cs 0
+first_of o cs e = grind (arith, common_steps)
 
-  -- a cell that a character shows
-  pub shown_one : (bytes : List ℕ) (c : ℕ) → i < length row → c ∷ [] ≡ shown_cell (get_or row i d) → bytes ≡ encodes (shown_row (take i row)) → bytes ++ encode c ≡ encodes (shown_row (take (i + 1) row))
-  shown_one bytes c h e b =
-      ap (λ (bs : List ℕ). bs ++ encode c) b ∙ ap (λ (bs : List ℕ). encodes (shown_row (take i row)) ++ bs) (sym (append-nil (encode c))) ∙ shown_more (c ∷ []) h e
+module _ {C : Type 0} (g : Glyph C) (letter : C → ℕ) where
+  -- the one character that shows a cell, if any does
+  abbrev pub shown_first : C → Option ℕ
+  shown_first c = slice_get (shown_cell g letter c) 0
 
-  -- a cell that nothing shows
-  pub shown_none : (bytes : List ℕ) → i < length row → [] ≡ shown_cell (get_or row i d) → bytes ≡ encodes (shown_row (take i row)) → bytes ≡ encodes (shown_row (take (i + 1) row))
-  shown_none bytes h e b = b ∙ sym (append-nil (encodes (shown_row (take i row)))) ∙ shown_more [] h e
+  pub shown_one_by_one : (row : List C) → filter_map shown_first row ≡ shown_row g letter row
+  shown_one_by_one [] = refl
+  shown_one_by_one (c ∷ row) = let rest = shown_one_by_one row in grind (arith, common_steps)

@@ -1,8 +1,9 @@
 -- The rows of a grid in the memory that holds them.
-use Rattle.std.proofs.Common.{◌≡◌, ℕ, zero, suc, ◌+◌, ◌-◌, ◌*◌, ◌<◌, ◌≤◌, Bool, true, false, cond, List, [], ◌∷◌, ◌++◌, length, take, drop, set, None, sym, refl, ap, ◌∙◌, ap₂, mul-le-mul_right, suc-mul, zero-mul, arith}
+use Rattle.std.proofs.Common.{◌≡◌, ℕ, zero, suc, ◌+◌, ◌-◌, ◌*◌, ◌<◌, ◌≤◌, Bool, true, false, cond, ◌&&◌, ltb, List, [], ◌∷◌, ◌++◌, length, take, drop, set, None, sym, refl, ap, ◌∙◌, ap₂, mul-le-mul_right, suc-mul, zero-mul, arith}
 use Rattle.std.specs.List.{slice_get}
 use borrow.Rule.Slice.PartMut.{put_mid}
 use Rattle.std.proofs.lemmas.List.{get_or_past, length-take-le, length-drop, take_at, drop_at, drop-drop, drop-take, drop-append-le}
+use Rattle.std.proofs.lemmas.Bool.{ltb-false}
 use Rattle.std.proofs.lemmas.Slice.{take-put_mid_below}
 use Rattle.cells.specs.Kinds.{Layer, Glyph}
 use Rattle.put_rule.specs.Putting.{put_row}
@@ -29,11 +30,10 @@ module _ {C : Type 0} where
       row_is rows w (drop w cells) row (omega arith) ∙ ap (take w) (drop-drop (row * w) w cells ∙ ap (λ (n : ℕ). drop n cells) (rw suc-mul (omega arith)))
 
   -- off the rows, and where there are none, nothing is found
-  pub off_rows : (fit : Bool) (rows w : ℕ) (cells : List C) (row column : ℕ) → fit ≡ true → rows ≤ row → None ≡ slice_get (row_at (cond fit (rows_of rows w cells) []) row) column
-  off_rows fit rows w cells row column e h = rw (e, get_or_past (rows_of rows w cells) row [] (omega (arith, length-rows rows w cells)))
-
-  pub off_none : (fit : Bool) (rows w : ℕ) (cells : List C) (row column : ℕ) → fit ≡ false → None ≡ slice_get (row_at (cond fit (rows_of rows w cells) []) row) column
-  off_none fit rows w cells row column e = rw e
+  pub off_rows : (fit : Bool) (rows w : ℕ) (cells : List C) (row column : ℕ) → (fit && ltb row rows) ≡ false → None ≡ slice_get (row_at (cond fit (rows_of rows w cells) []) row) column
+  off_rows false rows w cells row column e = refl
+  off_rows true rows w cells row column e =
+      rw (get_or_past (rows_of rows w cells) row [] (omega (arith, length-rows rows w cells, ltb-false row rows e))) refl
 
   -- of that many columns
   pub length-row : (rows w : ℕ) (cells : List C) (row : ℕ) → row < rows → rows * w ≤ length cells → length (row_at (rows_of rows w cells) row) ≡ w

@@ -3,8 +3,8 @@ use Rattle.std.proofs.Common.{◌≡◌, ℕ, zero, suc, ◌+◌, ◌-◌, ◌<�
 use borrow.Rule.Slice.PartMut.{put_mid}
 use Rattle.std.specs.List.{slice_get}
 use Rattle.std.proofs.lemmas.List.FromFn.{length-map-range_with_len, get_or-map-range_with_len}
-use Rattle.std.proofs.lemmas.List.{same_lists, length-append, length-take, length-take-le, length-drop, length-set, get_or_append_left, get_or-append_right, get_or-take, get_or-drop, get_or_default, get_or-set_same, get_or-set_other}
-use Rattle.std.proofs.lemmas.Bool.{cases_eq, cases_lt, eq-eqb, ne_eqb, lt-ltb, le-ltb, lt-leb, le-leb}
+use Rattle.std.proofs.lemmas.List.{same_lists, length-append, length-take, length-take-le, length-drop, length-set, set_past, get_or_append_left, get_or-append_right, get_or-take, get_or-drop, get_or_default, get_or-set_same, get_or-set_other}
+use Rattle.std.proofs.lemmas.Bool.{cases_eq, cases_lt, eq-eqb, ne_eqb, lt-ltb, le-ltb, lt-leb, le-leb, cond_both}
 use Rattle.std.proofs.lemmas.Bool.Decides.{nat_tests}
 use Rattle.cells.specs.Kinds.{Layer, Glyph}
 use Rattle.put_rule.specs.Putting.{among, holds, loses_left, loses_right, put_at, put_row}
@@ -102,15 +102,18 @@ module _ {C : Type 0} (l : Layer C) (g : Glyph C) where
                 ]
           ]
 
-    -- the three writes: two blanks beside the cells where asked for, then the cells
-    pub written : (lb rb : Bool) (at end : ℕ) (r s : List C) → end ≡ from + length new → lb ≡ left_test → rb ≡ holds g.left (slice_get row (end - 1)) → at ≡ from - 1 → r ≡ cond lb (set row at l.blank) row → s ≡ cond rb (set r end l.blank) r → put_mid from (length new) s new ≡ put_row l g row from new
-    written lb rb at end r s stop p q' here e' f' =
-        let q : rb ≡ right_test = rw stop at q' in
-        let e : r ≡ cond lb (set row (from - 1) l.blank) row = rw here at e' in
-        let f : s ≡ cond rb (set r (from + length new) l.blank) r = rw stop at f' in
+    -- the three writes: two blanks beside the cells where asked for, the right one only inside the row, then the cells
+    pub written : (end : ℕ) (lb rb : Bool) (r s : List C) → end ≡ from + length new → lb ≡ left_test → rb ≡ (ltb end (length row) && holds g.left (slice_get row (end - 1))) → r ≡ cond lb (set row (from - 1) l.blank) row → s ≡ cond rb (set r end l.blank) r → put_mid from (length new) s new ≡ put_row l g row from new
+    written end lb rb r s stop p q e f =
         let short : length r ≡ length row = ap length e ∙ length_set_if lb row (from - 1) l.blank in
-        let long : length s ≡ length row = ap length f ∙ length_set_if rb r (from + length new) l.blank ∙ short in
+        let inside-row : rb ≡ (ltb (from + length new) (length row) && right_test) = rw (sym stop) q in
+        let blanked : s ≡ cond right_test (set r (from + length new) l.blank) r =
+        (rw stop at f) ∙ rw inside-row (elim (cases_lt (from + length new) (length row)) [
+          | inl k ↦ rw (lt-ltb (from + length new) (length row) k) refl
+          | inr k ↦ rw (le-ltb (from + length new) (length row) k, set_past r (from + length new) l.blank (omega arith)) (cond_both right_test r r (λ (xs : List C). r ≡ xs) (λ _. refl) (λ _. refl))
+        ]) in
+        let long : length s ≡ length row = ap length blanked ∙ length_set_if right_test r (from + length new) l.blank ∙ short in
         let room : from + length new ≤ length s = omega arith in
         same_lists _ _ (length-put_mid from s new room ∙ long ∙ sym (length-put row from new))
         (λ k d h. let within : k < length row = omega (arith, length-put_mid from s new room) in
-        get_or-put_mid from s new k d room ∙ put_here s (two lb rb r s p q e f) k d within ∙ sym (get_or-put row from new k d within))
+        get_or-put_mid from s new k d room ∙ put_here s (two lb right_test r s p refl e blanked) k d within ∙ sym (get_or-put row from new k d within))

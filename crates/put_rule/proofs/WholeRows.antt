@@ -1,12 +1,11 @@
 -- The put rule takes whole rows to whole rows.
 use Rattle.std.proofs.Common.{◌≡◌, ℕ, zero, suc, ◌+◌, ◌-◌, ◌<◌, ◌≤◌, Bool, true, false, ◌&&◌, ◌||◌, List, length, get_or, Some, None, Option, sym, refl, ap, ◌∙◌, inl, inr, add-suc, arith}
 use Rattle.std.specs.List.{slice_get}
-use Rattle.std.proofs.lemmas.Option.{slice_get-get_or}
+use Rattle.std.proofs.lemmas.Option.{slice_get-get_or, slice_get_within, get_or_from_slice_get}
 use Rattle.std.proofs.lemmas.Bool.{both_ways, cases_Bool, and_parts, or_cases, or_parts, or_from, and_from, and_left, and_right, cond-true, cond-false}
 use Rattle.std.proofs.lemmas.Bool.Decides.{nat_tests}
 use Rattle.cells.specs.Kinds.{Layer, Glyph, Lawful}
 use Rattle.cells.specs.Rows.{before, after, paired, stays, Whole}
-use Rattle.cells.proofs.Places.{slice_get-within, slice_get-value}
 use Rattle.cells.proofs.Mending.{whole_stays, left_half_stays, right_half_stays, whole_from_stays, stays_from_whole}
 use Rattle.put_rule.specs.Putting.{among, holds, loses_left, loses_right, put_at, put_row}
 use Rattle.put_rule.proofs.PutRows.{length-put, get_or-put}
@@ -82,23 +81,23 @@ module _ {C : Type 0} (l : Layer C) (g : Glyph C) (laws : Lawful l g) (row new :
 
   put_cell : (k : ℕ) (c : C) → slice_get row k ≡ Some c → slice_get (put_row l g row from new) k ≡ Some (put_at l g row from new k)
   put_cell k c e =
-      let h = slice_get-within row k c e in
+      let h = slice_get_within row k c e in
       slice_get-get_or (put_row l g row from new) k c (omega (arith, length-put l g row from new)) ∙ ap Some (get_or-put l g row from new k c h)
 
   -- the three kinds of column: put over, blanked, kept
   put_over : (j : ℕ) (c : C) → slice_get new j ≡ Some c → slice_get (put_row l g row from new) (from + j) ≡ Some c
   put_over j c e =
-      let h = slice_get-within new j c e in
+      let h = slice_get_within new j c e in
       let old = slice_get-get_or row (from + j) c (omega arith) in
       let here : among from (length new) (from + j) ≡ true = grind (arith, nat_tests) in
       let index : from + j - from ≡ j = omega arith in
-      put_cell (from + j) (get_or row (from + j) c) old ∙ ap Some (cond-true _ _ _ here ∙ ap (λ (i : ℕ). get_or new i l.blank) index ∙ slice_get-value new j c l.blank e)
+      put_cell (from + j) (get_or row (from + j) c) old ∙ ap Some (cond-true _ _ _ here ∙ ap (λ (i : ℕ). get_or new i l.blank) index ∙ get_or_from_slice_get new j c l.blank e)
 
   blanked : (k : ℕ) (c : C) → slice_get row k ≡ Some c → among from (length new) k ≡ false → lost k ≡ true → slice_get (put_row l g row from new) k ≡ Some l.blank
   blanked k c e out gone = put_cell k c e ∙ ap Some (cond-false _ _ _ out ∙ cond-true _ _ _ gone)
 
   kept : (k : ℕ) (c : C) → slice_get row k ≡ Some c → among from (length new) k ≡ false → lost k ≡ false → slice_get (put_row l g row from new) k ≡ Some c
-  kept k c e out safe = put_cell k c e ∙ ap Some (cond-false _ _ _ out ∙ cond-false _ _ _ safe ∙ slice_get-value row k c l.blank e)
+  kept k c e out safe = put_cell k c e ∙ ap Some (cond-false _ _ _ out ∙ cond-false _ _ _ safe ∙ get_or_from_slice_get row k c l.blank e)
 
   module _ (all : Stays g row) (whole : Stays g new) where
     -- a pair that is kept in one half is kept in the other
@@ -163,7 +162,7 @@ module _ {C : Type 0} (l : Layer C) (g : Glyph C) (laws : Lawful l g) (row new :
 
     put_stays : Stays g (put_row l g row from new)
     put_stays k c e =
-        let within : k < length row = omega (arith, slice_get-within (put_row l g row from new) k c e, length-put l g row from new) in
+        let within : k < length row = omega (arith, slice_get_within (put_row l g row from new) k c e, length-put l g row from new) in
         let old = slice_get-get_or row k c within in
         elim (cases_Bool (among from (length new) k)) [
           | inl put ↦

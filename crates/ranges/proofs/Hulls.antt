@@ -1,6 +1,6 @@
 -- The smallest range, by what it holds: both its ends are wanted, and nothing outside it is.
-use Rattle.std.proofs.Common.{◌≡◌, ℕ, zero, suc, ◌<◌, ◌≤◌, Bool, true, false, ◌||◌, leb, Some, None, Option, sym, refl, ap, ◌∙◌, ap₂, inl, inr, arith}
-use Rattle.std.proofs.lemmas.Bool.{both_ways, cases_lt, cases_Bool, or_cases, or_left, or_right, and_parts, and_from, leb-true, le-leb}
+use Rattle.std.proofs.Common.{◌≡◌, ℕ, zero, suc, ◌<◌, ◌≤◌, Bool, true, false, ◌||◌, Some, None, Option, sym, refl, ◌∙◌, ap₂, arith}
+use Rattle.std.proofs.lemmas.Bool.Decides.{nat_tests}
 use Rattle.ranges.specs.Ranges.{Range, inside, grown, smallest}
 
 -- what a range is to p over the first n columns
@@ -21,7 +21,7 @@ grown_none p n here none = record {
   below = omega arith;
   at_first = here;
   at_last = here;
-  holds = λ c h t. elim (cases_lt c n) [ inl b ↦ absurd (both_ways (p c) (none c b) t) | inr b ↦ (omega arith, omega arith) ];
+  holds = λ c h t. let k = none c in (grind arith, grind arith);
 }
 
 grown_some : (p : ℕ → Bool) (n first last : ℕ) → p n ≡ true → Ends p n first last → Hull p (suc n) (Some (first, n))
@@ -30,12 +30,11 @@ grown_some p n first last here e = record {
   below = omega arith;
   at_first = e.at_first;
   at_last = here;
-  holds = λ c h t. elim (cases_lt c n) [ inl b ↦ ((e.holds c b t).0, omega arith) | inr b ↦ (omega (arith, e.order, e.below), omega arith) ];
+  holds = λ c h t. let k = e.holds c in (grind (arith, e.order, e.below), omega arith);
 }
 
 same_none : (p : ℕ → Bool) (n : ℕ) → p n ≡ false → Hull p n None → Hull p (suc n) None
-same_none p n here none c h =
-    elim (cases_lt c n) [ inl b ↦ none c b | inr b ↦ let e : c ≡ n = omega arith in ap p e ∙ here ]
+same_none p n here none c h = let k = none c in grind arith
 
 same_some : (p : ℕ → Bool) (n first last : ℕ) → p n ≡ false → Ends p n first last → Ends p (suc n) first last
 same_some p n first last here e = record {
@@ -43,10 +42,7 @@ same_some p n first last here e = record {
   below = omega (arith, e.below);
   at_first = e.at_first;
   at_last = e.at_last;
-  holds = λ c h t. elim (cases_lt c n) [
-    | inl b ↦ e.holds c b t
-    | inr b ↦ let q : c ≡ n = omega arith in absurd (both_ways (p c) (ap p q ∙ here) t)
-  ];
+  holds = λ c h t. let k = e.holds c in (grind arith, grind arith);
 }
 
 hull_grown : (p : ℕ → Bool) (n : ℕ) (b : Bool) (r : Option Range) → p n ≡ b → Hull p n r → Hull p (suc n) (grown b n r)
@@ -62,10 +58,10 @@ hull p zero = λ c h. absurd (omega arith)
 hull p (suc n) = hull_grown p n (p n) (smallest p n) refl (hull p n)
 
 -- and the only one
-pub hull_only : (p : ℕ → Bool) (n : ℕ) (r s : Option Range) → Hull p n r → Hull p n s → r ≡ s
+hull_only : (p : ℕ → Bool) (n : ℕ) (r s : Option Range) → Hull p n r → Hull p n s → r ≡ s
 hull_only p n None None h k = refl
-hull_only p n None (Some s) h k = absurd (both_ways (p s.0) (h s.0 (omega (arith, k.order, k.below))) k.at_first)
-hull_only p n (Some r) None h k = absurd (both_ways (p r.0) (k r.0 (omega (arith, h.order, h.below))) h.at_first)
+hull_only p n None (Some s) h k = let z = h s.0 in grind (arith, k.order, k.below, k.at_first)
+hull_only p n (Some r) None h k = let z = k r.0 in grind (arith, h.order, h.below, h.at_first)
 hull_only p n (Some r) (Some s) h k =
     let first : r.0 ≡ s.0 = omega (arith, h.holds s.0 (omega (arith, k.order, k.below)) k.at_first, k.holds r.0 (omega (arith, h.order, h.below)) h.at_first) in
     let last : r.1 ≡ s.1 = omega (arith, h.holds s.1 k.below k.at_last, k.holds r.1 h.below h.at_last) in
@@ -90,16 +86,14 @@ smallest_like p q n e = sym (smallest_is q n (smallest p n) (hull_like p q n (sm
 
 -- columns of a range
 pub inside_from : (r : Range) (c : ℕ) → r.0 ≤ c → c ≤ r.1 → inside (Some r) c ≡ true
-inside_from r c a b = and_from (leb r.0 c) (leb c r.1) (le-leb r.0 c a) (le-leb c r.1 b)
+inside_from r c a b = grind (arith, nat_tests)
 
 pub inside_bounds : (r : Range) (c : ℕ) → inside (Some r) c ≡ true → (r.0 ≤ c) × (c ≤ r.1)
-inside_bounds r c t =
-    let parts = and_parts (leb r.0 c) (leb c r.1) t in
-    (leb-true r.0 c parts.0, leb-true c r.1 parts.1)
+inside_bounds r c t = (grind (arith, nat_tests), grind (arith, nat_tests))
 
 -- what is wanted is in the range
 pub hull_inside : (p : ℕ → Bool) (n : ℕ) (r : Option Range) → Hull p n r → (c : ℕ) → c < n → p c ≡ true → inside r c ≡ true
-hull_inside p n None h c b t = absurd (both_ways (p c) (h c b) t)
+hull_inside p n None h c b t = let k = h c b in grind arith
 hull_inside p n (Some r) h c b t = let k = h.holds c b t in inside_from r c k.0 k.1
 
 -- a range of a row is the smallest that holds it
@@ -107,49 +101,27 @@ pub range_hull : (r : Range) (n : ℕ) → r.0 ≤ r.1 → r.1 < n → Hull (ins
 range_hull r n order below = record {
   order = order;
   below = below;
-  at_first = inside_from r r.0 (omega arith) order;
-  at_last = inside_from r r.1 order (omega arith);
+  at_first = grind (arith, nat_tests);
+  at_last = grind (arith, nat_tests);
   holds = λ c b t. inside_bounds r c t;
 }
 
 -- a range over another and k is one over what the other holds and k
 module _ (p k : ℕ → Bool) (n : ℕ) where
   over_inside : (s : Option Range) (c : ℕ) → Hull p n s → c < n → (p c || k c) ≡ true → (inside s c || k c) ≡ true
-  over_inside s c h b t =
-      elim (or_cases (p c) (k c) t) [
-        | inl u ↦ or_left (inside s c) (k c) (hull_inside p n s h c b u)
-        | inr u ↦ or_right (inside s c) (k c) u
-      ]
+  over_inside s c h b t = let i = hull_inside p n s h c b in grind arith
 
   -- the first column of a range over s and k: of k, or the first of s
   over_first : (s : Option Range) (first last : ℕ) → Hull p n s → Ends (λ c. inside s c || k c) n first last → (p first || k first) ≡ true
-  over_first None first last h e = or_right (p first) (k first) e.at_first
-  over_first (Some s) first last h e =
-      elim (or_cases (inside (Some s) first) (k first) e.at_first) [
-        | inl u ↦
-            let start : s.0 < n = omega (arith, h.order, h.below) in
-            let low = e.holds s.0 start (or_left (inside (Some s) s.0) (k s.0) (inside_from s s.0 (omega arith) h.order)) in
-            let same : s.0 ≡ first = omega (arith, low.0, (inside_bounds s first u).0) in
-            or_left (p first) (k first) (ap p (sym same) ∙ h.at_first)
-        | inr u ↦ or_right (p first) (k first) u
-      ]
+  over_first None first last h e = grind (arith, e.at_first)
+  over_first (Some s) first last h e = let i = e.holds s.0 in grind (arith, nat_tests, e.at_first, e.order, e.below, h.order, h.below, h.at_first)
 
   over_last : (s : Option Range) (first last : ℕ) → Hull p n s → Ends (λ c. inside s c || k c) n first last → (p last || k last) ≡ true
-  over_last None first last h e = or_right (p last) (k last) e.at_last
-  over_last (Some s) first last h e =
-      elim (or_cases (inside (Some s) last) (k last) e.at_last) [
-        | inl u ↦
-            let high = e.holds s.1 h.below (or_left (inside (Some s) s.1) (k s.1) (inside_from s s.1 h.order (omega arith))) in
-            let same : s.1 ≡ last = omega (arith, high.1, (inside_bounds s last u).1) in
-            or_left (p last) (k last) (ap p (sym same) ∙ h.at_last)
-        | inr u ↦ or_right (p last) (k last) u
-      ]
+  over_last None first last h e = grind (arith, e.at_last)
+  over_last (Some s) first last h e = let i = e.holds s.1 in grind (arith, nat_tests, e.at_last, e.order, e.below, h.order, h.below, h.at_last)
 
   pub hull_over : (s r : Option Range) → Hull p n s → Hull (λ c. inside s c || k c) n r → Hull (λ c. p c || k c) n r
-  hull_over s None h e = λ c b. elim (cases_Bool (p c || k c)) [
-    | inl t ↦ absurd (both_ways (inside s c || k c) (e c b) (over_inside s c h b t))
-    | inr f ↦ f
-  ]
+  hull_over s None h e = λ c b. let i = e c b in let j = over_inside s c h b in grind arith
   hull_over s (Some r) h e = record {
     order = e.order;
     below = e.below;

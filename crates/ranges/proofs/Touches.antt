@@ -1,23 +1,21 @@
 -- Touching a row again and again, and every row.
-use Rattle.std.proofs.Common.{◌≡◌, ℕ, zero, suc, ◌-◌, ◌<◌, ◌≤◌, min, Bool, true, false, ◌&&◌, ◌||◌, eqb, ltb, leb, ◌⊎◌, List, length, get_or, set, Some, None, Option, sym, refl, ap, ◌∙◌, ap₂, inl, inr, arith}
+use Rattle.std.proofs.Common.{◌≡◌, ℕ, zero, suc, ◌-◌, ◌<◌, ◌≤◌, min, Bool, true, false, ◌&&◌, ◌||◌, eqb, leb, ◌⊎◌, List, length, get_or, set, Some, None, Option, sym, refl, ap, ◌∙◌, inl, inr, arith}
 use Rattle.std.proofs.lemmas.List.FromFn.{length-map-range_with_len, get_or-map-range_with_len}
 use Rattle.std.proofs.lemmas.List.{same_lists, length-set, get_or-set_same, get_or-set_other, get_or_default}
-use Rattle.std.proofs.lemmas.Bool.{cases_eq, or_left, or_right, or_cases, and_parts, and_from, eq-eqb, ne_eqb, le-leb, leb-true, lt-ltb, ltb-true}
+use Rattle.std.proofs.lemmas.Bool.{cases_eq, or_left, or_right, eq-eqb, ne_eqb}
 use Rattle.std.proofs.lemmas.Bool.Decides.{nat_tests}
 use Rattle.cells.specs.Widths.{within}
-use Rattle.areas.proofs.Bools.{or_false, or_assoc}
-use Rattle.ranges.specs.Ranges.{Range, range_fits, inside, hit_before, near, smallest, touched_row, touch, joined_range}
+use Rattle.std.proofs.Math.Bool.{or-false, or_assoc}
+use Rattle.ranges.specs.Ranges.{Range, range_fits, inside, near, smallest, touched_row, touch, joined_range}
 use Rattle.ranges.proofs.Hulls.{Hull, hull, hull_like, hull_over, hull_inside, smallest_is, smallest_like, range_hull, inside_from, inside_bounds}
 
 fitting_hull : (n : ℕ) (r : Option Range) → range_fits n r ≡ true → Hull (inside r) n r
 fitting_hull n None f = λ c b. refl
-fitting_hull n (Some r) f =
-    let parts = and_parts (leb r.0 r.1) (ltb r.1 n) f in
-    range_hull r n (leb-true r.0 r.1 parts.0) (ltb-true r.1 n parts.1)
+fitting_hull n (Some r) f = range_hull r n (grind (arith, nat_tests)) (grind (arith, nat_tests))
 
 hull_fitting : (p : ℕ → Bool) (n : ℕ) (r : Option Range) → Hull p n r → range_fits n r ≡ true
 hull_fitting p n None h = refl
-hull_fitting p n (Some r) h = and_from (leb r.0 r.1) (ltb r.1 n) (le-leb r.0 r.1 h.order) (lt-ltb r.1 n h.below)
+hull_fitting p n (Some r) h = grind (arith, nat_tests, h.order, h.below)
 
 -- what touching gives always fits
 pub touched_fits : (n : ℕ) (old : Option Range) (hit : ℕ → Bool) → range_fits n (touched_row n old hit) ≡ true
@@ -34,33 +32,14 @@ touched_keeps n old hit c b t =
     hull_inside (λ c. inside old c || near hit c) n (touched_row n old hit) (hull (λ c. inside old c || near hit c) n) c b (or_left (inside old c) (near hit c) t)
 
 -- near one of two sets of spots
-or_swap : (a b c d e f : Bool) → ((a || d) || ((b || e) || (c || f))) ≡ ((a || (b || c)) || (d || (e || f)))
-or_swap true b c d e f = refl
-or_swap false true c true e f = refl
-or_swap false true c false e f = refl
-or_swap false false true true e f = refl
-or_swap false false true false true f = refl
-or_swap false false true false false f = refl
-or_swap false false false true e f = refl
-or_swap false false false false true f = refl
-or_swap false false false false false f = refl
-
-hit_before_or : (h k : ℕ → Bool) (c : ℕ) → hit_before (λ x. h x || k x) c ≡ (hit_before h c || hit_before k c)
-hit_before_or h k zero = refl
-hit_before_or h k (suc c) = refl
-
 pub near_or : (h k : ℕ → Bool) (c : ℕ) → near (λ x. h x || k x) c ≡ (near h c || near k c)
-near_or h k c =
-    ap (λ (b : Bool). b || ((h c || k c) || (h (suc c) || k (suc c)))) (hit_before_or h k c)
-    ∙ or_swap (hit_before h c) (h c) (h (suc c)) (hit_before k c) (k c) (k (suc c))
+near_or h k zero = grind arith
+near_or h k (suc c) = grind arith
 
 -- it depends on the spots up to one past the last column only
-hit_before_like : (n : ℕ) (h k : ℕ → Bool) → ((c : ℕ) → c ≤ n → h c ≡ k c) → (c : ℕ) → c < n → hit_before h c ≡ hit_before k c
-hit_before_like n h k e zero b = refl
-hit_before_like n h k e (suc c) b = e c (omega arith)
-
 pub near_like : (n : ℕ) (h k : ℕ → Bool) → ((c : ℕ) → c ≤ n → h c ≡ k c) → (c : ℕ) → c < n → near h c ≡ near k c
-near_like n h k e c b = ap₂ ◌||◌ (hit_before_like n h k e c b) (ap₂ ◌||◌ (e c (omega arith)) (e (suc c) (omega arith)))
+near_like n h k e zero b = rw (e 0 (omega arith), e 1 (omega arith)) refl
+near_like n h k e (suc c) b = rw (e c (omega arith), e (suc c) (omega arith), e (suc (suc c)) (omega arith)) refl
 
 -- a row touched twice is touched at the spots of both at once
 pub row_twice : (n : ℕ) (old : Option Range) (h k : ℕ → Bool) → touched_row n (touched_row n old h) k ≡ touched_row n old (λ c. h c || k c)
@@ -70,14 +49,14 @@ row_twice n old h k =
     sym
     (smallest_is (λ c. inside old c || near (λ x. h x || k x) c) n (touched_row n s k)
     (hull_like (λ c. p c || near k c) (λ c. inside old c || near (λ x. h x || k x) c) n (touched_row n s k)
-    (λ c b. sym (or_assoc (inside old c) (near h c) (near k c)) ∙ ap (λ (t : Bool). inside old c || t) (sym (near_or h k c)))
+    (λ c b. or_assoc (inside old c) (near h c) (near k c) ∙ ap (λ (t : Bool). inside old c || t) (sym (near_or h k c)))
     (hull_over p (near k) n s (touched_row n s k) (hull p n) (hull (λ c. inside s c || near k c) n))))
 
 -- spots that are near no column of a row leave it, if it fits
 pub row_far : (n : ℕ) (old : Option Range) (h : ℕ → Bool) → range_fits n old ≡ true → ((c : ℕ) → c < n → near h c ≡ false) → touched_row n old h ≡ old
 row_far n old h f e =
     smallest_is (λ c. inside old c || near h c) n old
-    (hull_like (inside old) (λ c. inside old c || near h c) n old (λ c b. sym (ap (λ (t : Bool). inside old c || t) (e c b) ∙ or_false (inside old c)))
+    (hull_like (inside old) (λ c. inside old c || near h c) n old (λ c b. sym (ap (λ (t : Bool). inside old c || t) (e c b) ∙ or-false (inside old c)))
     (fitting_hull n old f))
 
 near_none : (c : ℕ) → near (λ _. false) c ≡ false
@@ -114,10 +93,7 @@ module _ (n first last low high : ℕ) (order : first ≤ last) (is-low : low �
     below = grind (arith, nat_tests);
     at_first = grind (arith, nat_tests);
     at_last = grind (arith, nat_tests);
-    holds = λ c b t. elim (or_cases (inside (Some r) c) (within low high c) t) [
-      | inl u ↦ let k = inside_bounds r c u in (omega (arith, k.0), omega (arith, k.1))
-      | inr u ↦ let k = inside_bounds (low, high) c u in (omega (arith, k.0), omega (arith, k.1))
-    ];
+    holds = λ c b t. (grind (arith, nat_tests), grind (arith, nat_tests));
   }
 
   pub row_run : (old : Option Range) → range_fits n old ≡ true → touched_row n old (within first last) ≡ Some (joined_range old low high)
@@ -127,10 +103,8 @@ module _ (n first last low high : ℕ) (order : first ≤ last) (is-low : low �
 
 -- a run with no columns touches nothing, nor does one past the row's end
 far : (n first last c : ℕ) → c < n → (last < first) ⊎ (n < first) → near (within first last) c ≡ false
-far n first last zero b (inl h) = grind (arith, nat_tests)
-far n first last zero b (inr h) = grind (arith, nat_tests)
-far n first last (suc c) b (inl h) = grind (arith, nat_tests)
-far n first last (suc c) b (inr h) = grind (arith, nat_tests)
+far n first last zero b h = grind (arith, nat_tests)
+far n first last (suc c) b h = grind (arith, nat_tests)
 
 pub row_beyond : (n first last : ℕ) (old : Option Range) → range_fits n old ≡ true → (last < first) ⊎ (n < first) → touched_row n old (within first last) ≡ old
 row_beyond n first last old f h = row_far n old (within first last) f (λ c b. far n first last c b h)

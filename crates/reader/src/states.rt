@@ -37,16 +37,18 @@ pub enum State {
     InCharacter(Gathered),
 }
 
-// What a byte completes.
+// What a byte may complete.
 #[derive(Clone, Copy, PartialEq, Eq, Debug)]
 pub enum Action {
-    Nothing,
     // a character
     Show(u32),
     // columns to the right
     Right(u16),
-    // a row and a column, counted from 1
+    // a row and a column: numbers as they stand in the sequence, counted from 1, and no spot
     To(u16, u16),
     // attributes of the characters to come
     SetPen(u8),
 }
+
+// What a byte leads to: where the reader stands then, and what the byte completed, if anything.
+pub type Step = (State, Option<Action>);

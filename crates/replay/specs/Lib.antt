@@ -1,4 +1,4 @@
 -- What the contracts of this crate cite.
 pub mod Lines
+pub mod Outcomes
 pub mod Rows
-pub mod Words

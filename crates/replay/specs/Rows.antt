@@ -21,8 +21,6 @@ pub record IsLaid {C : Type 0} (l : Layer C) (g : Glyph C) (width : ℕ) (charac
 
 -- the row that mending makes of the laid characters, with what was counted
 pub record IsRow (width : ℕ) (characters : List ℕ) (m : MendedLine) : Type 0 where
-  pub row : vec_items m.row ≡ mended text_layer text_glyph (laid_row text_layer text_glyph width characters)
-  pub laid : m.laid.laid ≡ min (length (cells_of text_glyph characters)) width
-  pub cut : m.laid.cut ≡ length (cells_of text_glyph characters) - width
-  pub dropped : m.laid.dropped ≡ nothing_of text_glyph characters
-  pub blanked : Differing (laid_row text_layer text_glyph width characters) (vec_items m.row) m.blanked
+  pub row : vec_items m.line.row ≡ mended text_layer text_glyph (laid_row text_layer text_glyph width characters)
+  pub counted : Counted text_glyph width characters m.line.laid
+  pub blanked : Differing (laid_row text_layer text_glyph width characters) (vec_items m.line.row) m.blanked

@@ -41,6 +41,7 @@ pub struct TerminalBoard<'a, T> {
 }
 
 impl<'a, T: Terminal> Board for TerminalBoard<'a, T> {
+    // Lays the text into a row as wide as the width or the terminal, whichever is less, mends it and shows it.
     fn show(
         &mut self,
         heap: Global,
@@ -48,19 +49,9 @@ impl<'a, T: Terminal> Board for TerminalBoard<'a, T> {
         text: &[char],
         width: usize,
     ) -> Result<Option<Fault>, AllocError> {
-        show_text(heap, self.terminal, row, text, width)
+        let width = width.min(self.terminal.columns());
+        let mut line = laid_line::<T::Cell>(heap, text, width)?;
+        mend(line.row.as_mut_slice());
+        Ok(show_row(self.terminal, row, line.row.as_slice()).err())
     }
-}
-
-// Lays a text into a row as wide as the width or the terminal, whichever is less, mends it and shows it.
-fn show_text<T: Terminal>(
-    heap: Global,
-    terminal: &mut T,
-    row: usize,
-    text: &[char],
-    width: usize,
-) -> Result<Option<Fault>, AllocError> {
-    let mut line = laid_line::<T::Cell>(heap, text, width.min(terminal.columns()))?;
-    mend(line.row.as_mut_slice());
-    Ok(show_row(terminal, row, line.row.as_slice()).err())
 }

@@ -1,81 +1,112 @@
 // The command line: the list alone, or a terminal that it is put on.
 use pane::rectangles::Rectangle;
+use places::Size;
+use std::error::Error;
+use std::fmt;
+use std::num::ParseIntError;
+use std::str::FromStr;
 
 // The kinds of terminal.
-#[derive(Clone, Copy)]
+#[derive(Clone, Copy, PartialEq, Eq, Debug)]
 pub enum Kind {
     Dumb,
     Ecma48,
 }
 
-// A terminal: its kind, rows and columns, how many bytes its line memory has, and the pane of it that is written to, none for all of it.
-#[derive(Clone, Copy)]
-pub struct Device {
+// The terminal that is asked for: its kind and size, how many bytes its line memory has, and the pane of it that is written to, none for all of it.
+#[derive(Clone, Copy, PartialEq, Eq, Debug)]
+pub struct Asked {
     pub kind: Kind,
-    pub rows: usize,
-    pub columns: usize,
+    pub size: Size,
     pub line: usize,
     pub pane: Option<Rectangle>,
 }
 
+impl Asked {
+    // How many spots its grid has.
+    pub fn cells(self) -> usize {
+        self.size.rows.saturating_mul(self.size.columns)
+    }
+}
+
 // What is asked for.
-#[derive(Clone, Copy)]
+#[derive(Clone, Copy, PartialEq, Eq, Debug)]
 pub enum Command {
     // the list as text
     List,
     // the list as text, and what a terminal has of it then
-    Shown(Device),
+    Shown(Asked),
     // the bytes that a terminal sends, and no text
-    Raw(Device),
+    Raw(Asked),
 }
 
-// What the words after the program's name ask for, none if they are no command.
-pub fn parse_command(words: &[String]) -> Option<Command> {
-    if words.is_empty() {
-        return Some(Command::List);
+// The words are no command.
+#[derive(Clone, Copy, PartialEq, Eq, Debug)]
+pub struct NoCommand;
+
+impl fmt::Display for NoCommand {
+    fn fmt<W: fmt::Write>(&self, f: &mut fmt::Formatter<W>) -> fmt::Result {
+        f.write_str(
+            "write replay, or replay dumb or ecma48 ROWS COLUMNS LINE, then perhaps pane ROW COLUMN HEIGHT WIDTH, with raw before dumb or ecma48 for the bytes alone",
+        )
     }
-    if words[0].as_str() == "raw" {
-        return Some(Command::Raw(parse_device(&words[1..])?));
+}
+
+impl Error for NoCommand {}
+
+impl From<ParseIntError> for NoCommand {
+    fn from(_fault: ParseIntError) -> NoCommand {
+        NoCommand
     }
-    Some(Command::Shown(parse_device(words)?))
+}
+
+impl FromStr for Kind {
+    type Err = NoCommand;
+
+    fn from_str(word: &str) -> Result<Kind, NoCommand> {
+        match word {
+            "dumb" => Ok(Kind::Dumb),
+            "ecma48" => Ok(Kind::Ecma48),
+            _ => Err(NoCommand),
+        }
+    }
+}
+
+// What the words after the program's name ask for.
+pub fn parse_command(words: &[String]) -> Result<Command, NoCommand> {
+    match words {
+        [] => Ok(Command::List),
+        [first, asked @ ..] if first.as_str() == "raw" => Ok(Command::Raw(parse_asked(asked)?)),
+        asked => Ok(Command::Shown(parse_asked(asked)?)),
+    }
 }
 
 // The terminal that the words give.
-fn parse_device(words: &[String]) -> Option<Device> {
-    if words.len() != 4 && words.len() != 9 {
-        return None;
-    }
-    Some(Device {
-        kind: parse_kind(words[0].as_str())?,
-        rows: words[1].as_str().parse::<usize>().ok()?,
-        columns: words[2].as_str().parse::<usize>().ok()?,
-        line: words[3].as_str().parse::<usize>().ok()?,
-        pane: if words.len() == 4 {
-            None
-        } else {
-            Some(parse_pane(&words[4..])?)
+fn parse_asked(words: &[String]) -> Result<Asked, NoCommand> {
+    let [kind, rows, columns, line, pane @ ..] = words else {
+        return Err(NoCommand);
+    };
+    Ok(Asked {
+        kind: kind.as_str().parse::<Kind>()?,
+        size: Size {
+            rows: rows.as_str().parse::<usize>()?,
+            columns: columns.as_str().parse::<usize>()?,
         },
+        line: line.as_str().parse::<usize>()?,
+        pane: parse_pane(pane)?,
     })
 }
 
-// The kind of terminal that a word names.
-fn parse_kind(word: &str) -> Option<Kind> {
-    match word {
-        "dumb" => Some(Kind::Dumb),
-        "ecma48" => Some(Kind::Ecma48),
-        _ => None,
+// The rectangle that the words after the line memory give, none if there are none.
+fn parse_pane(words: &[String]) -> Result<Option<Rectangle>, NoCommand> {
+    match words {
+        [] => Ok(None),
+        [first, top, left, height, width] if first.as_str() == "pane" => Ok(Some(Rectangle {
+            top: top.as_str().parse::<usize>()?,
+            left: left.as_str().parse::<usize>()?,
+            height: height.as_str().parse::<usize>()?,
+            width: width.as_str().parse::<usize>()?,
+        })),
+        _ => Err(NoCommand),
     }
-}
-
-// The rectangle that the words after the size give.
-fn parse_pane(words: &[String]) -> Option<Rectangle> {
-    if words.len() != 5 || words[0].as_str() != "pane" {
-        return None;
-    }
-    Some(Rectangle {
-        top: words[1].as_str().parse::<usize>().ok()?,
-        left: words[2].as_str().parse::<usize>().ok()?,
-        height: words[3].as_str().parse::<usize>().ok()?,
-        width: words[4].as_str().parse::<usize>().ok()?,
-    })
 }

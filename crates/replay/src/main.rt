@@ -10,21 +10,20 @@ mod rows;
 ghost use Rattle.std.specs.Prelude.{◌≡◌, [], IfOk, if◌then◌else◌, codes, nat_eq};
 ghost use Rattle.std.specs.Str.{chars};
 ghost use Rattle.replay.specs.Lines.{content_of};
-ghost use Rattle.replay.specs.Words.{layer_word};
-ghost use Rattle.faults.specs.Faults.{layer_of};
 
 use anyhow::anyhow;
 use boards::{Board, NoBoard, TerminalBoard};
 use byte_cells::ByteCell;
-use command::{Command, Device, Kind, parse_command};
+use cells::kinds::TerminalCell;
+use command::{Asked, Command, Kind, parse_command};
 use dumb::Dumb;
 use ecma48::Ecma48;
-use faults::{Fault, FaultLayer};
+use faults::Fault;
 use inspection::{Inspected, Outcome, print_bytes, print_grid};
 use pane::panes::Pane;
 use pane::rectangles::Rectangle;
 use pick_list::{Laid, parse_width, show_row};
-use rows::mended_line;
+use rows::{MendedLine, mended_line};
 use std::alloc::{AllocError, Global};
 use std::io::{BufRead, BufReader, Read, Write};
 use std::process::ExitCode;
@@ -32,18 +31,18 @@ use std::{env, io};
 use terminal::terminals::Terminal;
 use text_cells::{Part, TextCell};
 
+// What is written of a list: its text, or the bytes alone that a terminal sends for it.
+#[derive(Clone, Copy, PartialEq, Eq, Debug)]
+enum Output {
+    Text,
+    Raw,
+}
+
 // How many lines became a row, and how many were refused.
 #[derive(Clone, Copy)]
 struct Tally {
     rows: u64,
     refused: u64,
-}
-
-// How wide the rows of a list are, and whether they are printed as text.
-#[derive(Clone, Copy)]
-struct Listing {
-    width: usize,
-    is_printed: bool,
 }
 
 // Which line of the list a row comes from, and which row of the board it takes.
@@ -74,10 +73,9 @@ fn characters(heap: Global, text: &str) -> Result<Vec<char>, AllocError>
 // Prints the row of a text, and what became of the characters.
 fn print_row(rt: &HostRuntime, text: &[char], width: usize) -> anyhow::Result<()> {
     let heap = rt.alloc();
-    let line = mended_line(heap, text, width)?;
+    let MendedLine { line, blanked } = mended_line(heap, text, width)?;
     let shown = show_row(heap, line.row.as_slice())?;
     let Laid { laid, cut, dropped } = line.laid;
-    let blanked = line.blanked;
     print!(rt; "|{shown}| {laid} laid, {cut} cut, {blanked} blanked")?;
     if dropped > 0 {
         print!(rt; ", {dropped} without width")?;
@@ -90,81 +88,6 @@ fn print_row(rt: &HostRuntime, text: &[char], width: usize) -> anyhow::Result<()
 fn read_line<R: Read>(input: &mut BufReader<R>, line: &mut Vec<u8>) -> io::Result<bool> {
     line.clear();
     Ok(input.read_until(b'\n', line)? > 0)
-}
-
-// The word for the part of the library that refuses.
-fn layer_word(fault: Fault) -> &'static str
-    ensures { result.now ≡ layer_word (layer_of fault) }
-{
-    match fault.layer() {
-        FaultLayer::Screen => "screen",
-        FaultLayer::Terminal => "terminal",
-    }
-}
-
-// Prints the message of a row that the board refused.
-fn print_refusal(rt: &HostRuntime, line: u64, fault: Fault) -> io::Result<()> {
-    let number = fault.number();
-    let layer = layer_word(fault);
-    println!(rt; "line {line}: refused {number} {layer}")
-}
-
-// Shows a text on the board; its row is printed if the list is, with a message if it was refused.
-fn take_row<B: Board>(
-    rt: &HostRuntime,
-    board: &mut B,
-    text: &str,
-    place: Place,
-    list: Listing,
-) -> anyhow::Result<()> {
-    let heap = rt.alloc();
-    let text = characters(heap, text)?;
-    let refusal = board.show(heap, place.row, text.as_slice(), list.width)?;
-    if !list.is_printed {
-        return Ok(());
-    }
-    print_row(rt, text.as_slice(), list.width)?;
-    if let Some(fault) = refusal {
-        print_refusal(rt, place.line, fault)?;
-    }
-    Ok(())
-}
-
-// Takes the row of every line that is left, and tells of each line that is no text if the list is printed.
-fn take_lines<R: Read, B: Board>(
-    rt: &HostRuntime,
-    input: &mut BufReader<R>,
-    board: &mut B,
-    list: Listing,
-) -> anyhow::Result<Tally> {
-    let mut line = Vec::new(rt.alloc());
-    let mut tally = Tally {
-        rows: 0,
-        refused: 0,
-    };
-    for number in 2..u64::MAX {
-        if !read_line(input, &mut line)? {
-            break;
-        }
-        match std::str::from_utf8(content(line.as_slice())) {
-            Ok(text) => {
-                let place = Place {
-                    line: number,
-                    row: tally.rows as usize,
-                };
-                take_row(rt, board, text, place, list)?;
-                tally.rows += 1;
-            }
-            Err(fault) => {
-                let first = fault.valid_up_to() + 1;
-                if list.is_printed {
-                    println!(rt; "line {number}: not UTF-8 text from byte {first} on")?;
-                }
-                tally.refused += 1;
-            }
-        }
-    }
-    Ok(tally)
 }
 
 // What a noun ends in after a number.
@@ -185,143 +108,203 @@ fn print_summary(rt: &HostRuntime, tally: Tally, width: usize) -> io::Result<()>
     println!(rt; "{refused} line{} refused", plural(refused))
 }
 
-// The whole list, put on a board.
-fn replay<B: Board>(rt: &HostRuntime, board: &mut B, is_printed: bool) -> anyhow::Result<()> {
-    let mut input = BufReader::new(rt.alloc(), rt.stdin())?;
-    let mut line = Vec::new(rt.alloc());
-    let _ = read_line(&mut input, &mut line)?;
-    let Some(width) = parse_width(content(line.as_slice())) else {
-        return Err(anyhow!("line 1: the width has to be a number from 1 to 128"));
-    };
-    let tally = take_lines(rt, &mut input, board, Listing { width, is_printed })?;
-    if is_printed {
-        print_summary(rt, tally, width)?;
+// The program's run: its runtime, and what it writes of a list.
+#[derive(Clone, Copy)]
+struct Replay<'r> {
+    rt: &'r HostRuntime,
+    output: Output,
+}
+
+// The list, line by line.
+impl<'r> Replay<'r> {
+    // Shows a text on the board; its row is printed if the list is, with a message if it was refused.
+    fn take_row<B: Board>(
+        self,
+        board: &mut B,
+        text: &str,
+        place: Place,
+        width: usize,
+    ) -> anyhow::Result<()> {
+        let heap = self.rt.alloc();
+        let text = characters(heap, text)?;
+        let refusal = board.show(heap, place.row, text.as_slice(), width)?;
+        if self.output == Output::Raw {
+            return Ok(());
+        }
+        print_row(self.rt, text.as_slice(), width)?;
+        if let Some(fault) = refusal {
+            println!(self.rt; "line {}: {fault}", place.line)?;
+        }
+        Ok(())
     }
-    Ok(())
+
+    // Takes the row of every line that is left, and tells of each line that is no text if the list is printed.
+    fn take_lines<R: Read, B: Board>(
+        self,
+        input: &mut BufReader<R>,
+        board: &mut B,
+        width: usize,
+    ) -> anyhow::Result<Tally> {
+        let mut line = Vec::new(self.rt.alloc());
+        let mut tally = Tally {
+            rows: 0,
+            refused: 0,
+        };
+        // lines go by their numbers, which the messages tell
+        for number in 2..u64::MAX {
+            if !read_line(input, &mut line)? {
+                break;
+            }
+            match std::str::from_utf8(content(line.as_slice())) {
+                Ok(text) => {
+                    let place = Place {
+                        line: number,
+                        row: tally.rows as usize,
+                    };
+                    self.take_row(board, text, place, width)?;
+                    tally.rows += 1;
+                }
+                Err(fault) => {
+                    let first = fault.valid_up_to() + 1;
+                    if self.output == Output::Text {
+                        println!(self.rt; "line {number}: not UTF-8 text from byte {first} on")?;
+                    }
+                    tally.refused += 1;
+                }
+            }
+        }
+        Ok(tally)
+    }
+
+    // The whole list, put on a board.
+    fn list_on<B: Board>(self, board: &mut B) -> anyhow::Result<()> {
+        let mut input = BufReader::new(self.rt.alloc(), self.rt.stdin())?;
+        let mut line = Vec::new(self.rt.alloc());
+        let _ = read_line(&mut input, &mut line)?;
+        let Some(width) = parse_width(content(line.as_slice())) else {
+            return Err(anyhow!("line 1: the width has to be a number from 1 to 128"));
+        };
+        let tally = self.take_lines(&mut input, board, width)?;
+        if self.output == Output::Text {
+            print_summary(self.rt, tally, width)?;
+        }
+        Ok(())
+    }
 }
 
-// The message of a refused device.
-fn refused(fault: Fault, why: &str) -> anyhow::Error {
-    let number = fault.number();
-    let layer = layer_word(fault);
-    anyhow!("refused {number} {layer}: {why}")
-}
+// The list on a terminal.
+impl<'r> Replay<'r> {
+    // The list on a terminal, and what that tells of itself then.
+    fn on_terminal<T: Terminal>(self, terminal: &mut T) -> anyhow::Result<Outcome> {
+        self.list_on(&mut TerminalBoard { terminal })?;
+        Ok(Outcome::of(terminal))
+    }
 
-// The list on a terminal, and what that tells of itself then.
-fn replay_terminal<T: Terminal>(
-    rt: &HostRuntime,
-    terminal: &mut T,
-    is_printed: bool,
-) -> anyhow::Result<Outcome> {
-    replay(rt, &mut TerminalBoard { terminal }, is_printed)?;
-    Ok(Outcome::of(terminal))
-}
-
-// The same on a pane of it.
-fn replay_pane<T: Terminal>(
-    rt: &HostRuntime,
-    terminal: &mut T,
-    area: Rectangle,
-    is_printed: bool,
-) -> anyhow::Result<Outcome> {
-    if let Err(fault) = Pane::check(terminal, area) {
-        return Err(refused(
-            fault,
+    // The same on a pane of it.
+    fn on_pane<T: Terminal>(self, terminal: &mut T, area: Rectangle) -> anyhow::Result<Outcome> {
+        accepted(
+            Pane::check(terminal, area),
             "the pane has to lie inside the terminal, with a row and a column at least",
-        ));
+        )?;
+        self.on_terminal(&mut Pane::new(terminal, area))
     }
-    replay_terminal(rt, &mut Pane::new(terminal, area), is_printed)
-}
 
-// The list on a terminal or a pane of it, then the bytes that the terminal sent, in raw, or in text with its grid and what it tells of itself.
-fn replay_on<T: Inspected>(
-    rt: &HostRuntime,
-    terminal: &mut T,
-    pane: Option<Rectangle>,
-    is_printed: bool,
-) -> anyhow::Result<()> {
-    let outcome = match pane {
-        Some(area) => replay_pane(rt, terminal, area, is_printed)?,
-        None => replay_terminal(rt, terminal, is_printed)?,
-    };
-    let bytes = terminal.bytes(rt.alloc())?;
-    if !is_printed {
-        rt.stdout().write_all(bytes.as_slice())?;
-        return Ok(());
+    // The list on a terminal or a pane of it, then the bytes that the terminal sent, in raw, or in text with its grid and what it tells of itself.
+    fn on_inspected<T: Inspected>(
+        self,
+        terminal: &mut T,
+        pane: Option<Rectangle>,
+    ) -> anyhow::Result<()> {
+        let outcome = match pane {
+            Some(area) => self.on_pane(terminal, area)?,
+            None => self.on_terminal(terminal)?,
+        };
+        match self.output {
+            Output::Raw => self.rt.stdout().write_all(terminal.bytes())?,
+            Output::Text => {
+                print_bytes(self.rt, terminal.bytes())?;
+                print_grid(self.rt, terminal)?;
+                println!(self.rt; "{outcome}")?;
+            }
+        }
+        Ok(())
     }
-    print_bytes(rt, bytes.as_slice())?;
-    print_grid(rt, terminal)?;
-    outcome.print(rt)?;
-    Ok(())
-}
 
-// The list on a dumb terminal.
-fn replay_dumb(rt: &HostRuntime, device: Device, is_printed: bool) -> anyhow::Result<()> {
-    let heap = rt.alloc();
-    let (rows, columns) = (device.rows, device.columns);
-    let count = rows.saturating_mul(columns);
-    if let Err(fault) = Dumb::check(rows, columns, count) {
-        return Err(refused(
-            fault,
-            "a dumb terminal has 1 to 24 rows and 1 to 80 columns",
-        ));
+    // The list on a dumb terminal. Apart from the other kind, since one function for both would have to name, in a type, how long memory lives
+    // that it makes itself.
+    fn on_dumb(self, asked: Asked) -> anyhow::Result<()> {
+        let limits = "a dumb terminal has 1 to 24 rows and 1 to 80 columns";
+        accepted(Dumb::check(asked.size, asked.cells()), limits)?;
+        let mut memory = Memory::of(self.rt.alloc(), asked, ByteCell { byte: b'#' })?;
+        let cells = memory.cells.as_mut_slice();
+        let mut dumb = Dumb::new(cells, asked.size, memory.line.as_mut_slice());
+        self.on_inspected(&mut dumb, asked.pane)
     }
-    let mut cells = vec![in heap; ByteCell { byte: b'#' }; count]?;
-    let mut line = vec![in heap; 0u8; device.line]?;
-    let mut dumb = Dumb::new(cells.as_mut_slice(), rows, columns, line.as_mut_slice());
-    replay_on(rt, &mut dumb, device.pane, is_printed)
-}
 
-// The list on an ECMA-48 terminal.
-fn replay_ecma48(rt: &HostRuntime, device: Device, is_printed: bool) -> anyhow::Result<()> {
-    let heap = rt.alloc();
-    let (rows, columns) = (device.rows, device.columns);
-    let count = rows.saturating_mul(columns);
-    if let Err(fault) = Ecma48::check(rows, columns, count) {
-        return Err(refused(
-            fault,
-            "an ECMA-48 terminal has 1 to 64 rows and 1 to 128 columns",
-        ));
+    // The list on an ECMA-48 terminal.
+    fn on_ecma48(self, asked: Asked) -> anyhow::Result<()> {
+        let limits = "an ECMA-48 terminal has 1 to 64 rows and 1 to 128 columns";
+        accepted(Ecma48::check(asked.size, asked.cells()), limits)?;
+        let mut memory = Memory::of(self.rt.alloc(), asked, TextCell::new(35, Part::Single, 0))?;
+        let cells = memory.cells.as_mut_slice();
+        let mut ecma48 = Ecma48::new(cells, asked.size, memory.line.as_mut_slice());
+        self.on_inspected(&mut ecma48, asked.pane)
     }
-    let mut cells = vec![in heap; TextCell::new(35, Part::Single, 0); count]?;
-    let mut line = vec![in heap; 0u8; device.line]?;
-    let mut ecma48 = Ecma48::new(cells.as_mut_slice(), rows, columns, line.as_mut_slice());
-    replay_on(rt, &mut ecma48, device.pane, is_printed)
-}
 
-// The list on the terminal that is asked for.
-fn replay_device(rt: &HostRuntime, device: Device, is_printed: bool) -> anyhow::Result<()> {
-    match device.kind {
-        Kind::Dumb => replay_dumb(rt, device, is_printed),
-        Kind::Ecma48 => replay_ecma48(rt, device, is_printed),
+    // The list on the terminal that is asked for: each kind is a type of its own, which the match picks.
+    fn on_asked(self, asked: Asked) -> anyhow::Result<()> {
+        match asked.kind {
+            Kind::Dumb => self.on_dumb(asked),
+            Kind::Ecma48 => self.on_ecma48(asked),
+        }
     }
 }
 
-// What the command line asks for, none if its words are no command.
-fn asked_command(rt: &HostRuntime) -> anyhow::Result<Option<Command>> {
-    let words: Vec<String> = env::args(rt)?.skip(1).collect(rt.alloc())?;
-    Ok(parse_command(words.as_slice()))
+// The memory of a terminal: a cell for each spot of its grid, and its line.
+#[derive(Drop)]
+struct Memory<C> {
+    cells: Vec<C>,
+    line: Vec<u8>,
+}
+
+impl<C: TerminalCell> Memory<C> {
+    // The memory that is asked for, with one cell at each spot.
+    fn of(heap: Global, asked: Asked, cell: C) -> Result<Memory<C>, AllocError> {
+        Ok(Memory {
+            cells: vec![in heap; cell; asked.cells()]?,
+            line: vec![in heap; 0u8; asked.line]?,
+        })
+    }
+}
+
+// The answer of a check; a refusal is told with its reason.
+fn accepted(answer: Result<(), Fault>, why: &str) -> anyhow::Result<()> {
+    answer.map_err(|fault| anyhow!("{fault}: {why}"))
 }
 
 // Does what the command line asks for.
 fn run_command(rt: &HostRuntime, command: Command) -> anyhow::Result<()> {
+    let replay = |output| Replay { rt, output };
     match command {
-        Command::List => replay(rt, &mut NoBoard, true),
-        Command::Shown(device) => replay_device(rt, device, true),
-        Command::Raw(device) => replay_device(rt, device, false),
+        Command::List => replay(Output::Text).list_on(&mut NoBoard),
+        Command::Shown(asked) => replay(Output::Text).on_asked(asked),
+        Command::Raw(asked) => replay(Output::Raw).on_asked(asked),
     }
 }
 
-// The whole program, with the message of words that are no command.
+// The whole program, with the message of words that are no command, which is longer than an `anyhow::Error` holds.
 fn run(rt: &HostRuntime) -> anyhow::Result<ExitCode> {
-    let Some(command) = asked_command(rt)? else {
-        eprintln!(rt;
-            "write replay, or replay dumb or ecma48 ROWS COLUMNS LINE, then perhaps pane ROW COLUMN HEIGHT WIDTH, with raw before dumb or ecma48 for the bytes alone"
-        )?;
-        return Ok(ExitCode::FAILURE);
-    };
-    run_command(rt, command)?;
-    Ok(ExitCode::SUCCESS)
+    let words: Vec<String> = env::args(rt)?.skip(1).collect(rt.alloc())?;
+    match parse_command(words.as_slice()) {
+        Ok(command) => {
+            run_command(rt, command)?;
+            Ok(ExitCode::SUCCESS)
+        }
+        Err(fault) => {
+            eprintln!(rt; "{fault}")?;
+            Ok(ExitCode::FAILURE)
+        }
+    }
 }
 
 fn main(rt: HostRuntime) -> ExitCode {

@@ -1,11 +1,11 @@
 // The rows of a list: a line's characters laid into cells, and mended.
-ghost use Rattle.std.specs.Prelude.{◌≡◌, IfOk, vec_len};
+ghost use Rattle.std.specs.Prelude.{◌≡◌, IfOk};
 ghost use Rattle.cells.specs.Rows.{mended};
 ghost use Rattle.text_cells.specs.TextCells.{text_layer, text_glyph};
 ghost use Rattle.pick_list.specs.Differing.{Differing};
 ghost use Rattle.replay.specs.Rows.{IsLaid, IsRow};
 
-use cells::kinds::{LayerCell, TerminalCell};
+use cells::kinds::TerminalCell;
 use cells::rows::mend;
 use pick_list::{Laid, count_differing, lay};
 use std::alloc::{AllocError, Global};
@@ -21,21 +21,9 @@ pub struct LaidLine<C> {
 // A line laid into a row that is mended.
 #[derive(Drop)]
 pub struct MendedLine {
-    pub row: Vec<TextCell>,
-    pub laid: Laid,
+    pub line: LaidLine<TextCell>,
     // columns that mending turned into the blank
     pub blanked: usize,
-}
-
-// A row of blanks.
-fn blank_row<C: LayerCell>(heap: Global, width: usize) -> Result<Vec<C>, AllocError>
-    ensures { IfOk result (λ row. vec_len row ≡ width) }
-{
-    let mut row = Vec::new(heap);
-    for _column in 0..width {
-        row.push(C::blank())?;
-    }
-    Ok(row)
 }
 
 // Lays characters into a row of that width.
@@ -46,7 +34,7 @@ pub fn laid_line<C: TerminalCell>(
 ) -> Result<LaidLine<C>, AllocError>
     ensures { IfOk result (λ line. IsLaid C.LayerCell.layer C.TerminalCell.glyph width text.now line.row.items line.laid) }
 {
-    let mut row = blank_row(heap, width)?;
+    let mut row = vec![in heap; C::blank(); width]?;
     let laid = lay(text, row.as_mut_slice());
     Ok(LaidLine { row, laid })
 }
@@ -64,8 +52,11 @@ fn mend_counted(raw: &[TextCell], row: &mut [TextCell]) -> usize
 pub fn mended_line(heap: Global, text: &[char], width: usize) -> Result<MendedLine, AllocError>
     ensures { IfOk result (λ m. IsRow width text.now m) }
 {
-    let LaidLine { row: raw, laid } = laid_line::<TextCell>(heap, text, width)?;
-    let mut row = Vec::from_slice(heap, raw.as_slice())?;
-    let blanked = mend_counted(raw.as_slice(), row.as_mut_slice());
-    Ok(MendedLine { row, laid, blanked })
+    let raw = laid_line::<TextCell>(heap, text, width)?;
+    let mut row = Vec::from_slice(heap, raw.row.as_slice())?;
+    let blanked = mend_counted(raw.row.as_slice(), row.as_mut_slice());
+    Ok(MendedLine {
+        line: LaidLine { row, ..raw },
+        blanked,
+    })
 }

@@ -1,5 +1,7 @@
 -- What each accepted call on panels makes of a record.
 use Rattle.std.specs.Prelude.{ℕ, cond, ◌||◌, List, [], ◌∷◌, ◌++◌, Some, None, Option, slice_set}
+use Rattle.places.specs.declared.Spot.{Spot}
+use Rattle.places.specs.declared.Rectangle.{Rectangle}
 use Rattle.orders.specs.Orders.{without}
 use Rattle.areas.specs.Addresses.{part_of}
 use Rattle.windows.specs.Tables.{area_of}
@@ -12,9 +14,9 @@ use Rattle.screen.specs.States.{State, with_deck, touched_at}
 abbrev pub deck_with : Deck → ℕ → Panel → Deck
 deck_with d number p = record { given = slice_set d.given number (Some p); order = d.order }
 
-abbrev pub given_panel : State → ℕ → ℕ → ℕ → ℕ → ℕ → ℕ → ℕ → ℕ → State
-given_panel s number window view_row view_column height width row column =
-    with_deck s (deck_with s.deck number (record { window = window; view = part_of (area_of s.table window) view_row view_column height width; row = row; column = column }))
+abbrev pub given_panel : State → ℕ → ℕ → Rectangle → Spot → State
+given_panel s number window view at =
+    with_deck s (deck_with s.deck number (record { window = window; view = part_of (area_of s.table window) view.top view.left view.height view.width; at = at }))
 
 -- another order, and the panel's rectangle is touched
 abbrev pub reordered : State → ℕ → List ℕ → State
@@ -32,13 +34,17 @@ raised_panel s number = reordered s number (without number s.deck.order ++ numbe
 abbrev pub lowered_panel : State → ℕ → State
 lowered_panel s number = reordered s number (number ∷ without number s.deck.order)
 
--- another place; if the panel is shown, its old and its new rectangle are touched
-abbrev pub relocated : State → ℕ → Option Panel → ℕ → ℕ → State
-relocated s number None row column = s
-relocated s number (Some p) row column =
-    cond (is_shown s.deck number)
-    (touched_at (with_deck s (deck_with s.deck number (moved_to p row column))) (λ r c. covers (Some p) r c || covers (Some (moved_to p row column)) r c))
-    (with_deck s (deck_with s.deck number (moved_to p row column)))
+-- a panel has another place
+abbrev pub moved : State → ℕ → Panel → Spot → State
+moved s number p to = with_deck s (deck_with s.deck number (moved_to p to.row to.column))
 
-abbrev pub relocated_panel : State → ℕ → ℕ → ℕ → State
-relocated_panel s number row column = relocated s number (panel_of s.deck number) row column
+-- and if it is shown, its old and its new rectangle are touched
+abbrev pub relocated : State → ℕ → Option Panel → Spot → State
+relocated s number None to = s
+relocated s number (Some p) to =
+    cond (is_shown s.deck number)
+    (touched_at (moved s number p to) (λ r c. covers (Some p) r c || covers (Some (moved_to p to.row to.column)) r c))
+    (moved s number p to)
+
+abbrev pub relocated_panel : State → ℕ → Spot → State
+relocated_panel s number to = relocated s number (panel_of s.deck number) to

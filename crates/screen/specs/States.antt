@@ -1,9 +1,9 @@
 -- A screen record as all contracts speak of it.
 use Rattle.std.specs.Prelude.{ℕ, Bool, List, replicate, None, Option}
+use Rattle.places.specs.Places.{spot}
+use Rattle.places.specs.declared.Spot.{Spot}
 use Rattle.ranges.specs.Ranges.{Range, touch}
 use Rattle.touching.specs.TouchedRows.{ranges_of}
-use Rattle.terminal.specs.Operations.{spot}
-use Rattle.terminal.specs.declared.spots.Spot.{Spot}
 use Rattle.windows.specs.Tables.{Table, table_of, no_windows}
 use Rattle.panels.specs.Decks.{Deck, deck_of, no_panels}
 use Rattle.screen.specs.declared.board.Board.{Board}
@@ -21,8 +21,8 @@ pub record State : Type 0 where
 
 abbrev pub state_on : Board → State
 state_on b = record {
-  rows = b.touched.rows;
-  columns = b.touched.columns;
+  rows = b.touched.size.rows;
+  columns = b.touched.size.columns;
   table = table_of b.windows;
   deck = deck_of b.panels;
   ranges = ranges_of b.touched;
@@ -50,59 +50,19 @@ abbrev pub fresh : ℕ → ℕ → ℕ → State
 fresh rows columns memory = fresh_over (no_windows memory) rows columns
 
 abbrev pub with_table : State → Table → State
-with_table s table = record {
-  rows = s.rows;
-  columns = s.columns;
-  table = table;
-  deck = s.deck;
-  ranges = s.ranges;
-  brush = s.brush;
-  place = s.place;
-}
+with_table s table = record s { table = table }
 
 abbrev pub with_deck : State → Deck → State
-with_deck s deck = record {
-  rows = s.rows;
-  columns = s.columns;
-  table = s.table;
-  deck = deck;
-  ranges = s.ranges;
-  brush = s.brush;
-  place = s.place;
-}
+with_deck s deck = record s { deck = deck }
 
 abbrev pub with_brush : State → ℕ → State
-with_brush s brush = record {
-  rows = s.rows;
-  columns = s.columns;
-  table = s.table;
-  deck = s.deck;
-  ranges = s.ranges;
-  brush = brush;
-  place = s.place;
-}
+with_brush s brush = record s { brush = brush }
 
 abbrev pub with_place : State → Spot → State
-with_place s place = record {
-  rows = s.rows;
-  columns = s.columns;
-  table = s.table;
-  deck = s.deck;
-  ranges = s.ranges;
-  brush = s.brush;
-  place = place;
-}
+with_place s place = record s { place = place }
 
 abbrev pub with_ranges : State → List (Option Range) → State
-with_ranges s ranges = record {
-  rows = s.rows;
-  columns = s.columns;
-  table = s.table;
-  deck = s.deck;
-  ranges = ranges;
-  brush = s.brush;
-  place = s.place;
-}
+with_ranges s ranges = record s { ranges = ranges }
 
 -- spots were touched
 abbrev pub touched_at : State → (ℕ → ℕ → Bool) → State

@@ -1,7 +1,7 @@
 // The parts of a screen record.
 use crate::brushes::Brush;
 use panels::records::Panels;
-use terminal::spots::Spot;
+use places::Spot;
 use touching::records::Touched;
 use windows::records::Windows;
 

@@ -1,74 +1,72 @@
 // The calls on panels.
-ghost use Rattle.std.specs.Prelude.{◌≡◌, ◌<◌, true, ◌||◌, [], ◌∷◌, IfOk, if◌then◌else◌, Some, MatchResult, OnOk};
+ghost use Rattle.std.specs.Prelude.{◌≡◌, ℕ, ◌<◌, List, true, not, ◌||◌, [], ◌∷◌, IfOk, Some, MatchResult, OnOk};
+ghost use Rattle.std.specs.Fn.{FnOnceReturnsAtMut};
 ghost use Rattle.faults.specs.Refusals.{first, fault_of};
+ghost use Rattle.faults.specs.declared.Fault.TheVariants.{OffScreen};
+ghost use Rattle.touching.specs.TouchedRows.{Touching};
 ghost use Rattle.panels.specs.Places.{covers, is_small};
-ghost use Rattle.panels.specs.Decks.{panel_of, is_shown};
-ghost use Rattle.screen.specs.States.{state_on, state_of, touched_at};
-ghost use Rattle.screen.specs.Refusals.{fits_on, no_panel, panel_refusal, show_refusal, shown_refusal, relocate_refusal};
-ghost use Rattle.screen.specs.PanelCalls.{given_panel, shown_panel, hidden_panel, raised_panel, lowered_panel, relocated_panel};
+ghost use Rattle.panels.specs.Decks.{deck_of, panel_of, is_shown, with_order};
+ghost use Rattle.panels.specs.declared.records.Panels.{Panels};
+ghost use Rattle.screen.specs.States.{state_of};
+ghost use Rattle.screen.specs.Refusals.{rectangle, fits_on, no_panel, panel_refusal, show_refusal, shown_refusal, relocate_refusal};
+ghost use Rattle.screen.specs.PanelCalls.{given_panel, reordered, shown_panel, hidden_panel, raised_panel, lowered_panel, relocated_panel};
 
-use crate::board::Board;
 use crate::records::Screen;
 use faults::Fault;
 use orders::records::MOST_PANELS;
 use panels::panel::Panel;
+use panels::records::Panels;
+use places::{Rectangle, Spot};
+use touching::records::Touched;
 
-impl Board {
-    // Touches the rectangle of a panel.
-    fn touch_panel(&mut self, panel: Panel)
-        ensures state { state_on self.new ≡ touched_at (state_on self.old) (covers (Some panel)) }
-        ensures windows { self.new.windows ≡ self.old.windows }
-        ensures panels { self.new.panels ≡ self.old.panels }
-    {
-        self.touched.touch_rectangle(panel.row, panel.column, panel.view.height, panel.view.width);
-    }
-
-    // Touches the rectangles of two panels.
-    fn touch_both(&mut self, one: Panel, other: Panel)
-        ensures state { state_on self.new ≡ touched_at (state_on self.old) (λ r c. covers (Some one) r c || covers (Some other) r c) }
-        ensures windows { self.new.windows ≡ self.old.windows }
-        ensures panels { self.new.panels ≡ self.old.panels }
-    {
-        self.touch_panel(one);
-        self.touch_panel(other);
-    }
-
-    // The same, if the panel of a number is shown.
-    fn touch_if_shown(&mut self, number: usize, one: Panel, other: Panel)
-        ensures state { state_on self.new ≡ (if is_shown (state_on self.old).deck number then touched_at (state_on self.old) (λ r c. covers (Some one) r c || covers (Some other) r c) else state_on self.old) }
-        ensures windows { self.new.windows ≡ self.old.windows }
-        ensures panels { self.new.panels ≡ self.old.panels }
-    {
-        if self.panels.is_shown(number) {
-            self.touch_both(one, other);
-        }
-    }
-
-    // Does a rectangle lie wholly on the screen?
-    fn fits_on(&self, row: usize, column: usize, height: usize, width: usize) -> bool
-        ensures { result ≡ fits_on (state_on self.now) row column height width }
-    {
-        let rows = self.touched.rows();
-        let columns = self.touched.columns();
-        height <= rows && row <= rows - height && width <= columns && column <= columns - width
+// The rectangle of the screen where a panel lies.
+fn rectangle_of(panel: Panel) -> Rectangle
+    ensures { result ≡ rectangle panel.at panel.view.height panel.view.width }
+{
+    Rectangle {
+        top: panel.at.row,
+        left: panel.at.column,
+        height: panel.view.height,
+        width: panel.view.width,
     }
 }
 
+// Touches the rectangle of a panel.
+fn touch_panel(touched: &mut Touched, panel: Panel)
+    ensures { Touching touched.old touched.new (covers (Some panel)) }
+{
+    touched.touch_rectangle(rectangle_of(panel));
+}
+
+// Touches the rectangles of two panels.
+fn touch_both(touched: &mut Touched, one: Panel, other: Panel)
+    ensures { Touching touched.old touched.new (λ r c. covers (Some one) r c || covers (Some other) r c) }
+{
+    touch_panel(touched, one);
+    touch_panel(touched, other);
+}
+
 impl Screen {
+    // Refuses a panel that does not lie wholly on the screen.
+    fn check_fits(&self, panel: Panel) -> Result<(), Fault>
+        ensures { fault_of result ≡ first ((not (fits_on (state_of self.now) (rectangle panel.at panel.view.height panel.view.width)), OffScreen) ∷ []) }
+    {
+        if !rectangle_of(panel).lies_in(self.board.touched.size()) {
+            return Err(Fault::OffScreen);
+        }
+        Ok(())
+    }
+
     // Gives a number a panel: a rectangle of a window, at a spot of the screen. It is hidden.
     pub fn panel(
         &mut self,
         number: usize,
         window: usize,
-        view_row: usize,
-        view_column: usize,
-        height: usize,
-        width: usize,
-        row: usize,
-        column: usize,
+        view: Rectangle,
+        at: Spot,
     ) -> Result<(), Fault>
-        ensures refusal { fault_of result ≡ panel_refusal (state_of self.old) number window view_row view_column height width row column }
-        ensures effect { MatchResult result (λ _. state_of self.new ≡ given_panel (state_of self.old) number window view_row view_column height width row column) (λ _. self.new ≡ self.old) }
+        ensures refusal { fault_of result ≡ panel_refusal (state_of self.old) number window view at }
+        ensures effect { MatchResult result (λ _. state_of self.new ≡ given_panel (state_of self.old) number window view at) (λ _. self.new ≡ self.old) }
     {
         if number >= MOST_PANELS {
             return Err(Fault::NoPanel);
@@ -76,19 +74,9 @@ impl Screen {
         if self.board.panels.is_shown(number) {
             return Err(Fault::PanelShown);
         }
-        let view = self
-            .board
-            .windows
-            .part(window, view_row, view_column, height, width)?;
-        if !self.board.fits_on(row, column, height, width) {
-            return Err(Fault::OffScreen);
-        }
-        let panel = Panel {
-            window,
-            view,
-            row,
-            column,
-        };
+        let view = self.board.windows.part(window, view)?;
+        let panel = Panel { window, view, at };
+        self.check_fits(panel)?;
         self.board.panels.give(number, panel);
         Ok(())
     }
@@ -100,10 +88,7 @@ impl Screen {
         ensures number { OnOk result (number < 16) }
         ensures small { IfOk result (λ p. is_small (Some p) ≡ true) }
     {
-        match self.board.panels.panel(number) {
-            Some(panel) => Ok(panel),
-            None => Err(Fault::NoPanel),
-        }
+        self.board.panels.panel(number).ok_or(Fault::NoPanel)
     }
 
     // The panel of a number that is shown.
@@ -129,7 +114,21 @@ impl Screen {
             return Err(Fault::PanelShown);
         }
         self.board.panels.show(number);
-        self.board.touch_panel(panel);
+        touch_panel(&mut self.board.touched, panel);
+        Ok(())
+    }
+
+    // Changes the order at a panel that is shown, and touches its rectangle.
+    fn reorder<F: FnOnce(&mut Panels)>(&mut self, number: usize, change: F) -> Result<(), Fault>
+        ghost order: { List ℕ }
+        requires callable { F.IsAlwaysCallable change }
+        requires changes { (new : Panels) → FnOnceReturnsAtMut F.FnOnce change self.old.board.panels tt new → deck_of new ≡ with_order (state_of self.old).deck order }
+        ensures refusal { fault_of result ≡ shown_refusal (state_of self.old) number }
+        ensures effect { MatchResult result (λ _. state_of self.new ≡ reordered (state_of self.old) number order) (λ _. self.new ≡ self.old) }
+    {
+        let panel = self.shown(number)?;
+        change(&mut self.board.panels);
+        touch_panel(&mut self.board.touched, panel);
         Ok(())
     }
 
@@ -138,10 +137,7 @@ impl Screen {
         ensures refusal { fault_of result ≡ shown_refusal (state_of self.old) number }
         ensures effect { MatchResult result (λ _. state_of self.new ≡ hidden_panel (state_of self.old) number) (λ _. self.new ≡ self.old) }
     {
-        let panel = self.shown(number)?;
-        self.board.panels.hide(number);
-        self.board.touch_panel(panel);
-        Ok(())
+        self.reorder(number, |panels| panels.hide(number))
     }
 
     // Brings a shown panel to the top.
@@ -149,10 +145,7 @@ impl Screen {
         ensures refusal { fault_of result ≡ shown_refusal (state_of self.old) number }
         ensures effect { MatchResult result (λ _. state_of self.new ≡ raised_panel (state_of self.old) number) (λ _. self.new ≡ self.old) }
     {
-        let panel = self.shown(number)?;
-        self.board.panels.raise(number);
-        self.board.touch_panel(panel);
-        Ok(())
+        self.reorder(number, |panels| panels.raise(number))
     }
 
     // Brings a shown panel to the bottom.
@@ -160,32 +153,21 @@ impl Screen {
         ensures refusal { fault_of result ≡ shown_refusal (state_of self.old) number }
         ensures effect { MatchResult result (λ _. state_of self.new ≡ lowered_panel (state_of self.old) number) (λ _. self.new ≡ self.old) }
     {
-        let panel = self.shown(number)?;
-        self.board.panels.lower(number);
-        self.board.touch_panel(panel);
-        Ok(())
+        self.reorder(number, |panels| panels.lower(number))
     }
 
     // Gives a panel another place.
-    pub fn relocate(&mut self, number: usize, row: usize, column: usize) -> Result<(), Fault>
-        ensures refusal { fault_of result ≡ relocate_refusal (state_of self.old) number row column }
-        ensures effect { MatchResult result (λ _. state_of self.new ≡ relocated_panel (state_of self.old) number row column) (λ _. self.new ≡ self.old) }
+    pub fn relocate(&mut self, number: usize, to: Spot) -> Result<(), Fault>
+        ensures refusal { fault_of result ≡ relocate_refusal (state_of self.old) number to }
+        ensures effect { MatchResult result (λ _. state_of self.new ≡ relocated_panel (state_of self.old) number to) (λ _. self.new ≡ self.old) }
     {
         let panel = self.given(number)?;
-        if !self
-            .board
-            .fits_on(row, column, panel.view.height, panel.view.width)
-        {
-            return Err(Fault::OffScreen);
-        }
-        let moved = Panel {
-            window: panel.window,
-            view: panel.view,
-            row,
-            column,
-        };
-        self.board.touch_if_shown(number, panel, moved);
+        let moved = Panel { at: to, ..panel };
+        self.check_fits(moved)?;
         self.board.panels.give(number, moved);
+        if self.board.panels.is_shown(number) {
+            touch_both(&mut self.board.touched, panel, moved);
+        }
         Ok(())
     }
 }

@@ -1,7 +1,6 @@
 // A record is set up; its brush and the cursor's place are set.
 ghost use Rattle.std.specs.Prelude.{◌≡◌, min, MatchResult};
 ghost use Rattle.faults.specs.Refusals.{fault_of};
-ghost use Rattle.terminal.specs.Operations.{spot};
 ghost use Rattle.windows.specs.Tables.{table_of};
 ghost use Rattle.screen.specs.States.{state_on, state_of, fresh_over, fresh, with_brush, with_place};
 ghost use Rattle.screen.specs.Refusals.{set_up_refusal, brush_refusal, spot_refusal};
@@ -11,16 +10,16 @@ use crate::brushes::Brush;
 use crate::records::Screen;
 use faults::Fault;
 use panels::records::Panels;
-use terminal::spots::Spot;
+use places::{Size, Spot};
 use touching::records::{MOST_COLUMNS, MOST_ROWS, Touched};
 use windows::records::Windows;
 
 // A board of that size with nothing on it.
-fn bare(rows: usize, columns: usize, windows: Windows) -> Board
-    ensures touched { state_on result ≡ fresh_over (table_of windows) (min rows 64) (min columns 128) }
+fn bare(size: Size, windows: Windows) -> Board
+    ensures touched { state_on result ≡ fresh_over (table_of windows) (min size.rows 64) (min size.columns 128) }
 {
     Board {
-        touched: Touched::new(rows, columns),
+        touched: Touched::new(size),
         windows,
         panels: Panels::new(),
         brush: Brush { attributes: 0 },
@@ -34,20 +33,21 @@ impl Screen {
         ensures { state_of result ≡ fresh 0 0 0 }
     {
         Screen {
-            board: bare(0, 0, Windows::none()),
+            board: bare(Size::NONE, Windows::none()),
         }
     }
 
     // Fills the record anew, over window memory of so many cells.
-    pub fn set_up(&mut self, rows: usize, columns: usize, memory: usize) -> Result<(), Fault>
-        ensures refusal { fault_of result ≡ set_up_refusal rows columns memory }
-        ensures effect { MatchResult result (λ _. state_of self.new ≡ fresh rows columns memory) (λ _. self.new ≡ self.old) }
+    pub fn set_up(&mut self, size: Size, memory: usize) -> Result<(), Fault>
+        ensures refusal { fault_of result ≡ set_up_refusal size memory }
+        ensures effect { MatchResult result (λ _. state_of self.new ≡ fresh size.rows size.columns memory) (λ _. self.new ≡ self.old) }
     {
-        if rows == 0 || rows > MOST_ROWS || columns == 0 || columns > MOST_COLUMNS {
+        // the test of `Limits`, which is a terminal's: a screen stands on none
+        if !(1..=MOST_ROWS).contains(&size.rows) || !(1..=MOST_COLUMNS).contains(&size.columns) {
             return Err(Fault::BadSize);
         }
         let windows = Windows::new(memory)?;
-        self.board = bare(rows, columns, windows);
+        self.board = bare(size, windows);
         Ok(())
     }
 
@@ -56,22 +56,17 @@ impl Screen {
         ensures refusal { fault_of result ≡ brush_refusal attributes }
         ensures effect { MatchResult result (λ _. state_of self.new ≡ with_brush (state_of self.old) attributes) (λ _. self.new ≡ self.old) }
     {
-        if attributes > 15 {
-            return Err(Fault::BadAttributes);
-        }
-        self.board.brush = Brush { attributes };
+        self.board.brush = Brush::of(attributes)?;
         Ok(())
     }
 
     // Sets the cursor's place.
-    pub fn place(&mut self, row: usize, column: usize) -> Result<(), Fault>
-        ensures refusal { fault_of result ≡ spot_refusal (state_of self.old) row column }
-        ensures effect { MatchResult result (λ _. state_of self.new ≡ with_place (state_of self.old) (spot row column)) (λ _. self.new ≡ self.old) }
+    pub fn place(&mut self, at: Spot) -> Result<(), Fault>
+        ensures refusal { fault_of result ≡ spot_refusal (state_of self.old) at }
+        ensures effect { MatchResult result (λ _. state_of self.new ≡ with_place (state_of self.old) at) (λ _. self.new ≡ self.old) }
     {
-        if row >= self.board.touched.rows() || column >= self.board.touched.columns() {
-            return Err(Fault::OffScreen);
-        }
-        self.board.place = Spot { row, column };
+        self.check_spot(at)?;
+        self.board.place = at;
         Ok(())
     }
 }

@@ -1,32 +1,42 @@
--- The first operation of the cells from a column on.
-use Rattle.std.proofs.Common.{◌≡◌, ℕ, ◌+◌, ◌<◌, ◌≤◌, true, false, List, ◌∷◌, length, get_or, drop, sym, ap, ◌∙◌, add_assoc, arith}
-use Rattle.std.proofs.lemmas.List.{drop_more, drop_all, get_or_default}
+-- The first operation of a row's cells.
+use Rattle.std.proofs.Common.{◌≡◌, ◌-◌, ◌<◌, ◌≤◌, true, false, List, [], ◌∷◌, length, get_or, take, drop, refl, sym, ap, ◌∙◌, arith}
+use Rattle.std.proofs.lemmas.List.{take_all}
 use Rattle.std.proofs.lemmas.Bool.{cond-true, cond-false}
 use Rattle.cells.specs.Kinds.{Glyph}
 use Rattle.terminal.specs.Operations.{Put, PutPair}
 use Rattle.showing.specs.RowOperations.{cell_operations}
 
--- the cells from a column on begin with the one that is read there
-drop_read : {C : Type 0} (cells : List C) (i : ℕ) (c : C) → i < length cells → c ≡ get_or cells i c → drop i cells ≡ c ∷ drop (i + 1) cells
-drop_read cells i c h e = drop_more cells i c h ∙ ap (λ (x : _). x ∷ drop (i + 1) cells) (sym e)
+-- what stands behind the first cell
+abbrev pub behind : {C : Type 0} → List C → List C
+behind cells = take (length cells - 1) (drop 1 cells)
 
--- two cells that belong together; the second is read twice
-pub pair_next : {C : Type 0} (g : Glyph C) (cells : List C) (i : ℕ) (c d e : C) → i + 1 < length cells → c ≡ get_or cells i c → d ≡ get_or cells (i + 1) d → e ≡ get_or cells (i + 1) e → g.belong c d ≡ true → cell_operations g (drop i cells) ≡ PutPair c e ∷ cell_operations g (drop (i + 2) cells)
-pair_next g cells i c d e h rc rd re b =
-    let same : d ≡ e = rd ∙ get_or_default cells (i + 1) d e h ∙ sym re in
-    let two : drop i cells ≡ c ∷ d ∷ drop (i + 1 + 1) cells = drop_read cells i c (omega arith) rc ∙ ap (λ (xs : List _). c ∷ xs) (drop_read cells (i + 1) d h rd) in
-    ap (cell_operations g) two ∙ cond-true _ _ _ b ∙ ap (λ (x : _). PutPair c x ∷ cell_operations g (drop (i + 1 + 1) cells)) same
-    ∙ ap (λ (n : ℕ). PutPair c e ∷ cell_operations g (drop n cells)) (add_assoc i 1 1)
+-- a slice's first cell, as it is read
+pub record First {C : Type 0} (cells : List C) (c : C) : Type 0 where
+  pub some : 1 ≤ length cells
+  pub is : c ≡ get_or cells 0 c
 
--- the last cell
-pub last_next : {C : Type 0} (g : Glyph C) (cells : List C) (i : ℕ) (c : C) → i < length cells → c ≡ get_or cells i c → length cells ≤ i + 1 → cell_operations g (drop i cells) ≡ Put c ∷ cell_operations g (drop (i + 1) cells)
-last_next g cells i c h rc past =
-    let none = drop_all (i + 1) cells past in
-    ap (cell_operations g) (drop_read cells i c h rc ∙ ap (λ (xs : List _). c ∷ xs) none) ∙ ap (λ (xs : List _). Put c ∷ cell_operations g xs) (sym none)
+module _ {C : Type 0} where
+  first_is : (cells : List C) (c : C) → First cells c → cells ≡ c ∷ behind cells
+  first_is [] c first = absurd (omega (arith, first.some))
+  first_is (x ∷ cells) c first = rw (first.is, take_all (length (x ∷ cells) - 1) cells (omega arith))
 
--- a cell that does not belong with the next
-pub single_next : {C : Type 0} (g : Glyph C) (cells : List C) (i : ℕ) (c d : C) → i + 1 < length cells → c ≡ get_or cells i c → d ≡ get_or cells (i + 1) d → g.belong c d ≡ false → cell_operations g (drop i cells) ≡ Put c ∷ cell_operations g (drop (i + 1) cells)
-single_next g cells i c d h rc rd b =
-    let next = drop_read cells (i + 1) d h rd in
-    ap (cell_operations g) (drop_read cells i c (omega arith) rc ∙ ap (λ (xs : List _). c ∷ xs) next) ∙ cond-false _ _ _ b
-    ∙ ap (λ (xs : List _). Put c ∷ cell_operations g xs) (sym next)
+  both_are : (cells : List C) (c d : C) → First cells c → First (behind cells) d → cells ≡ c ∷ d ∷ behind (behind cells)
+  both_are cells c d first next = first_is cells c first ∙ ap (λ (xs : List C). c ∷ xs) (first_is (behind cells) d next)
+
+  -- two cells that belong together
+  pub pair_next : (g : Glyph C) (cells : List C) (c d : C) → First cells c → First (behind cells) d → g.belong c d ≡ true → cell_operations g cells ≡ PutPair c d ∷ cell_operations g (behind (behind cells))
+  pair_next g cells c d first next b = ap (cell_operations g) (both_are cells c d first next) ∙ cond-true _ _ _ b
+
+  -- a cell that does not belong with the next
+  pub single_next : (g : Glyph C) (cells : List C) (c d : C) → First cells c → First (behind cells) d → g.belong c d ≡ false → cell_operations g cells ≡ Put c ∷ cell_operations g (behind cells)
+  single_next g cells c d first next b =
+      ap (cell_operations g) (both_are cells c d first next) ∙ cond-false _ _ _ b
+      ∙ ap (λ (xs : List C). Put c ∷ cell_operations g xs) (sym (first_is (behind cells) d next))
+
+  -- the last cell
+  last_with : (g : Glyph C) (after : List C) (c : C) → length after < 1 → cell_operations g (c ∷ after) ≡ Put c ∷ cell_operations g after
+  last_with g [] c short = refl
+  last_with g (d ∷ after) c short = absurd (omega arith)
+
+  pub last_next : (g : Glyph C) (cells : List C) (c : C) → First cells c → length (behind cells) < 1 → cell_operations g cells ≡ Put c ∷ cell_operations g (behind cells)
+  last_next g cells c first short = ap (cell_operations g) (first_is cells c first) ∙ last_with g (behind cells) c short

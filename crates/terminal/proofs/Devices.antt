@@ -11,7 +11,7 @@ use Rattle.put_rule.proofs.GridRows.{length-rows, length-row}
 use Rattle.terminal.specs.Meanings.{Meaning, Sound, on_grid}
 use Rattle.terminal.specs.Operations.{spot, moved_on, put_cells, with_room, perform, Move}
 use Rattle.terminal.specs.Devices.{usable, known, over_grid}
-use Rattle.terminal.specs.declared.spots.Spot.{Spot}
+use Rattle.places.specs.declared.Spot.{Spot}
 
 -- what an answer that is no refusal promises
 pub accepted : (P : Type 0) (Q : Fault → Type 0) (r : Result (Unit {0}) Fault) → fault_of r ≡ None → MatchResult r (λ _. P) Q → P
@@ -51,12 +51,12 @@ usable_since false rows columns row column h k = absurd (omega arith)
 module _ {C : Type 0} where
   pub sound_over : (fit : Bool) (t : Grid C) (cursor : Option Spot) (room need tally : ℕ) → (fit ≡ true → fitting t ≡ true) → need ≤ 4096 → Sound (over_grid fit t cursor room need tally)
   sound_over true t cursor room need tally h small =
-      let size = eqb-true (length t.cells.now) (t.rows * t.columns) (h refl) in
+      let size = eqb-true (length t.cells.now) (t.size.rows * t.size.columns) (h refl) in
       record {
-        tall = length-rows t.rows t.columns t.cells.now;
-        wide = λ row k. length-row t.rows t.columns t.cells.now row k (omega arith);
-        cursor_row = λ s e. (known_on t.rows t.columns cursor s e).0;
-        cursor_column = λ s e. (known_on t.rows t.columns cursor s e).1;
+        tall = length-rows t.size.rows t.size.columns t.cells.now;
+        wide = λ row k. length-row t.size.rows t.size.columns t.cells.now row k (omega arith);
+        cursor_row = λ s e. (known_on t.size.rows t.size.columns cursor s e).0;
+        cursor_column = λ s e. (known_on t.size.rows t.size.columns cursor s e).1;
         small_need = small;
       }
   sound_over false t cursor room need tally h small = record {
@@ -70,7 +70,7 @@ module _ {C : Type 0} where
   -- the cursor moved to a spot of the grid
   pub move_over : (l : Layer C) (g : Glyph C) (fit : Bool) (t : Grid C) (cursor : Option Spot) (room left need tally row column : ℕ) → on_grid (over_grid fit t cursor room need tally) row column ≡ true → over_grid fit t (Some (spot row column)) left need tally ≡ with_room left (perform l g (over_grid fit t cursor room need tally) (Move row column))
   move_over l g fit t cursor room left need tally row column h =
-      rw (on_known (cond fit t.rows 0) (cond fit t.columns 0) row column h)
+      rw (on_known (cond fit t.size.rows 0) (cond fit t.size.columns 0) row column h)
 
   -- a grid that was put into is usable as before
   pub still_usable : (limits : ℕ → ℕ → Bool) (l : Layer C) (g : Glyph C) (t u : Grid C) (row column : ℕ) (new : List C) → PutInto l g t u row column new → usable limits u ≡ usable limits t
@@ -80,17 +80,17 @@ module _ {C : Type 0} where
   same_meaning rows rows' columns columns' grid grid' cursor cursor' room need tally tally' a b c d e = rw (a, b, c, d, e)
 
   -- the rows of a grid that was put into
-  pub put_rows : (l : Layer C) (g : Glyph C) (t u : Grid C) (row column : ℕ) (new : List C) → fitting t ≡ true → PutInto l g t u row column new → rows_of u.rows u.columns u.cells.now ≡ put_grid l g (rows_of t.rows t.columns t.cells.now) row column new
+  pub put_rows : (l : Layer C) (g : Glyph C) (t u : Grid C) (row column : ℕ) (new : List C) → fitting t ≡ true → PutInto l g t u row column new → rows_of u.size.rows u.size.columns u.cells.now ≡ put_grid l g (rows_of t.size.rows t.size.columns t.cells.now) row column new
   put_rows l g t u row column new f p =
       let fit-u : fitting u ≡ true = still_usable (λ _ _. true) l g t u row column new p ∙ f in
       sym (cond-true (fitting u) _ [] fit-u) ∙ p.put ∙ ap (λ (rows : List (List C)). put_grid l g rows row column new) (cond-true (fitting t) _ [] f)
 
   -- cells put from the cursor on
-  pub put_over : (l : Layer C) (g : Glyph C) (fit : Bool) (t u : Grid C) (cursor after : Option Spot) (room left need tally count : ℕ) (s : Spot) (new : List C) → fit ≡ true → fitting t ≡ true → (over_grid fit t cursor room need tally).cursor ≡ Some s → PutInto l g t u s.row s.column new → after ≡ moved_on t.columns (Some s) (length new) → count ≡ (tally + length new) % 2 ^ 64 → over_grid fit u after left need count ≡ with_room left (put_cells l g (over_grid fit t cursor room need tally) new)
+  pub put_over : (l : Layer C) (g : Glyph C) (fit : Bool) (t u : Grid C) (cursor after : Option Spot) (room left need tally count : ℕ) (s : Spot) (new : List C) → fit ≡ true → fitting t ≡ true → (over_grid fit t cursor room need tally).cursor ≡ Some s → PutInto l g t u s.row s.column new → after ≡ moved_on t.size.columns (Some s) (length new) → count ≡ (tally + length new) % 2 ^ 64 → over_grid fit u after left need count ≡ with_room left (put_cells l g (over_grid fit t cursor room need tally) new)
   put_over l g false t u cursor after room left need tally count s new e f k p m n = absurd (both_ways false refl e)
   put_over l g true t u cursor after room left need tally count s new e f k p m n =
-      let on = known_on t.rows t.columns cursor s k in
+      let on = known_on t.size.rows t.size.columns cursor s k in
       rw k
-      (same_meaning u.rows _ u.columns _ _ _ _ _ left need count _ p.same_rows p.same_columns (put_rows l g t u s.row s.column new f p)
-      (rw (p.same_rows, p.same_columns, m) (moved_known t.rows t.columns s (length new) on.0))
+      (same_meaning u.size.rows _ u.size.columns _ _ _ _ _ left need count _ p.same_rows p.same_columns (put_rows l g t u s.row s.column new f p)
+      (rw (p.same_rows, p.same_columns, m) (moved_known t.size.rows t.size.columns s (length new) on.0))
       n)

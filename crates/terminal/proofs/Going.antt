@@ -1,7 +1,9 @@
 -- A run of operations on its way: some are done, the rest is still to do.
 use Rattle.std.proofs.Common.{◌≡◌, ℕ, suc, ◌+◌, ◌*◌, ◌≤◌, List, [], ◌∷◌, ◌++◌, length, take, Some, Ok, Err, Result, sym, refl, ap, ◌∙◌, subst, add-zero, suc-mul, zero-mul, arith}
 use Rattle.std.specs.List.{slice_get}
-use Rattle.std.proofs.lemmas.List.{take_at, length-append}
+use Rattle.std.proofs.Math.Seq.{get_or-append_seam}
+use Rattle.std.proofs.lemmas.Option.{slice_get-get_or}
+use Rattle.std.proofs.lemmas.List.{take_at, length-append, append_assoc}
 use Rattle.faults.specs.declared.Fault.{Fault}
 use Rattle.cells.specs.Kinds.{Layer, Glyph}
 use Rattle.terminal.specs.Meanings.{Meaning}
@@ -33,13 +35,9 @@ performs_push : {C : Type 0} (l : Layer C) (g : Glyph C) (m : Meaning C) (ops : 
 performs_push l g m [] op = refl
 performs_push l g m (o ∷ ops) op = performs_push l g (perform l g m o) ops op
 
-append_push : {X : Type 0} (xs : List X) (x : X) (ys : List X) → xs ++ x ∷ ys ≡ (xs ++ x ∷ []) ++ ys
-append_push [] x ys = refl
-append_push (z ∷ xs) x ys = ap (λ (zs : List _). z ∷ zs) (append_push xs x ys)
-
 slice_get_append : {X : Type 0} (xs : List X) (x : X) (ys : List X) → slice_get (xs ++ x ∷ ys) (length xs) ≡ Some x
-slice_get_append [] x ys = refl
-slice_get_append (z ∷ xs) x ys = slice_get_append xs x ys
+slice_get_append xs x ys =
+    slice_get-get_or (xs ++ x ∷ ys) (length xs) x (omega (arith, length-append xs (x ∷ ys))) ∙ ap Some (get_or-append_seam xs x ys x)
 
 -- what an accepted operation leaves, but for the room, and its need
 accepted_is : {C : Type 0} {l : Layer C} {g : Glyph C} {m n : Meaning C} {op : Operation C} → Accepted l g m n op → with_room 0 n ≡ perform l g (with_room 0 m) op
@@ -58,7 +56,7 @@ pub going_more : {C : Type 0} {l : Layer C} {g : Glyph C} {m n p : Meaning C} {o
 going_more {l = l} {g = g} {m = m} {rest = rest} {op = op} w a =
     record {
       done = w.done ++ op ∷ [];
-      split = w.split ∙ append_push w.done op rest;
+      split = w.split ∙ sym (append_assoc w.done (op ∷ []) rest);
       performed = accepted_is a ∙ ap (λ (x : Meaning _). perform l g x op) w.performed ∙ sym (performs_push l g (with_room 0 m) w.done op);
       same_need = accepted_need a ∙ w.same_need;
       no_more_room = omega (arith, a.no_more_room, w.no_more_room);

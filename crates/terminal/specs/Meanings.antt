@@ -1,6 +1,6 @@
 -- What a terminal means, and what holds of every meaning.
 use Rattle.std.specs.Prelude.{◌≡◌, ℕ, ◌<◌, ◌≤◌, Bool, ◌&&◌, List, length, Some, Option, nat_lt}
-use Rattle.terminal.specs.declared.spots.Spot.{Spot}
+use Rattle.places.specs.declared.Spot.{Spot}
 use Rattle.put_rule.specs.Grids.{row_at}
 
 -- rows and columns, the grid row by row, the cursor at a spot or unknown, the line room in bytes, the most room that

@@ -5,8 +5,9 @@ use Rattle.faults.specs.declared.Fault.TheVariants.{OffGrid, LineFull, NotDrawab
 use Rattle.cells.specs.Kinds.{Layer, Glyph}
 use Rattle.faults.specs.Refusals.{first}
 use Rattle.put_rule.specs.Grids.{put_grid}
+pub use Rattle.places.specs.Places.{spot}
 use Rattle.terminal.specs.Meanings.{Meaning, on_grid}
-use Rattle.terminal.specs.declared.spots.Spot.{Spot}
+use Rattle.places.specs.declared.Spot.{Spot}
 
 -- move to a spot, put a cell, put a pair of halves
 pub data Operation (C : Type 0) : Type 0 where
@@ -22,9 +23,6 @@ row_of (Some s) = s.row
 abbrev pub column_of : Option Spot → ℕ
 column_of None = 0
 column_of (Some s) = s.column
-
-abbrev pub spot : ℕ → ℕ → Spot
-spot row column = record { row = row; column = column }
 
 -- why an operation is refused, in the order of the tests
 abbrev pub refusal : {C : Type 0} → Glyph C → Meaning C → Operation C → Option Fault

@@ -1,22 +1,16 @@
-// A spot: a row and a column, counted from 0.
+// Spots of a terminal's grid: where its cursor is known to be, and where it is after cells were put.
 ghost use Rattle.std.specs.Prelude.{◌≡◌, Some};
 ghost use Rattle.terminal.specs.Devices.{known};
 ghost use Rattle.terminal.specs.Operations.{moved_on};
 
-#[derive(Clone, Copy, PartialEq, Eq, Debug)]
-pub struct Spot {
-    pub row: usize,
-    pub column: usize,
-}
+use places::Size;
+pub use places::Spot;
 
 // A stored cursor, none if it is off the grid.
-pub fn on_grid(rows: usize, columns: usize, cursor: Option<Spot>) -> Option<Spot>
-    ensures { result ≡ known rows columns cursor }
+pub fn on_grid(size: Size, cursor: Option<Spot>) -> Option<Spot>
+    ensures { result ≡ known size.rows size.columns cursor }
 {
-    match cursor {
-        Some(spot) if spot.row < rows && spot.column < columns => Some(spot),
-        _ => None,
-    }
+    cursor.filter(|spot| size.holds(*spot))
 }
 
 // The spot that many columns on, none past the last column.
@@ -25,8 +19,8 @@ pub fn moved_on(columns: usize, spot: Spot, count: usize) -> Option<Spot>
 {
     if count < columns.saturating_sub(spot.column) {
         Some(Spot {
-            row: spot.row,
             column: spot.column + count,
+            ..spot
         })
     } else {
         None

@@ -4,11 +4,11 @@ ghost use Rattle.terminal.specs.Meanings.{Meaning, Sound};
 ghost use Rattle.faults.specs.Refusals.{fault_of};
 ghost use Rattle.terminal.specs.Operations.{Operation, Move, Put, PutPair, refusal, Effect};
 
-use crate::spots::Spot;
 use cells::kinds::TerminalCell;
 use faults::Fault;
+use places::Spot;
 
-// A terminal of any kind. Questions change nothing; a refused operation changes nothing.
+// A terminal of any kind. A refused operation changes nothing.
 pub trait Terminal {
     // the kind of cell that it shows
     type Cell: TerminalCell;
@@ -16,40 +16,34 @@ pub trait Terminal {
     ghost meaning: { Self → Meaning Self.Cell };
 
     // How many rows it has. What holds of every meaning is promised here.
-    fn rows(&mut self) -> usize
-        ensures told { result ≡ (meaning self.old).rows }
-        ensures same { meaning self.new ≡ meaning self.old }
-        ensures sound { Sound (meaning self.old) };
+    fn rows(&self) -> usize
+        ensures told { result ≡ (meaning self.now).rows }
+        ensures sound { Sound (meaning self.now) };
 
     // How many columns it has.
-    fn columns(&mut self) -> usize
-        ensures told { result ≡ (meaning self.old).columns }
-        ensures same { meaning self.new ≡ meaning self.old };
+    fn columns(&self) -> usize
+        ensures told { result ≡ (meaning self.now).columns };
 
     // Where its cursor is, none if that is unknown.
-    fn cursor(&mut self) -> Option<Spot>
-        ensures told { result ≡ (meaning self.old).cursor }
-        ensures same { meaning self.new ≡ meaning self.old };
+    fn cursor(&self) -> Option<Spot>
+        ensures told { result ≡ (meaning self.now).cursor };
 
     // How many bytes the line takes before it is full.
-    fn room(&mut self) -> usize
-        ensures told { result ≡ (meaning self.old).room }
-        ensures same { meaning self.new ≡ meaning self.old };
+    fn room(&self) -> usize
+        ensures told { result ≡ (meaning self.now).room };
 
     // The most bytes that one operation takes.
-    fn need(&mut self) -> usize
-        ensures told { result ≡ (meaning self.old).need }
-        ensures same { meaning self.new ≡ meaning self.old };
+    fn need(&self) -> usize
+        ensures told { result ≡ (meaning self.now).need };
 
     // How many cells were put, modulo 2 ^ 64.
-    fn tally(&mut self) -> u64
-        ensures told { result ≡ (meaning self.old).tally }
-        ensures same { meaning self.new ≡ meaning self.old };
+    fn tally(&self) -> u64
+        ensures told { result ≡ (meaning self.now).tally };
 
     // Moves the cursor to a spot.
-    fn move_to(&mut self, row: usize, column: usize) -> Result<(), Fault>
-        ensures refusal { fault_of result ≡ refusal Self.Cell.TerminalCell.glyph (meaning self.old) (Move row column) }
-        ensures effect { Effect Self.Cell.LayerCell.layer Self.Cell.TerminalCell.glyph (meaning self.old) (meaning self.new) (Move row column) result };
+    fn move_to(&mut self, to: Spot) -> Result<(), Fault>
+        ensures refusal { fault_of result ≡ refusal Self.Cell.TerminalCell.glyph (meaning self.old) (Move to.row to.column) }
+        ensures effect { Effect Self.Cell.LayerCell.layer Self.Cell.TerminalCell.glyph (meaning self.old) (meaning self.new) (Move to.row to.column) result };
 
     // Puts a single at the cursor.
     fn put(&mut self, cell: Self::Cell) -> Result<(), Fault>

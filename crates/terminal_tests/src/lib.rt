@@ -4,22 +4,20 @@
 ghost use Rattle.std.specs.Prelude.{◌+◌};
 ghost use Rattle.terminal.specs.Operations.{Move, Put, Effect};
 
+mod dumb_promises;
+
 use faults::Fault;
 use pane::panes::Pane;
 use pane::rectangles::Rectangle;
+use places::Spot;
 use terminal::terminals::Terminal;
 
 // Whoever lends a terminal to a pane knows what a move there did to it.
-fn move_in_pane<T: Terminal>(
-    below: &mut T,
-    area: Rectangle,
-    row: usize,
-    column: usize,
-) -> Result<(), Fault>
-    ensures { Effect T.Cell.LayerCell.layer T.Cell.TerminalCell.glyph (T.Terminal.meaning below.old) (T.Terminal.meaning below.new) (Move (area.top + row) (area.left + column)) result }
+fn move_in_pane<T: Terminal>(below: &mut T, area: Rectangle, to: Spot) -> Result<(), Fault>
+    ensures { Effect T.Cell.LayerCell.layer T.Cell.TerminalCell.glyph (T.Terminal.meaning below.old) (T.Terminal.meaning below.new) (Move (area.top + to.row) (area.left + to.column)) result }
 {
     let mut pane = Pane::new(below, area);
-    pane.move_to(row, column)
+    pane.move_to(to)
 }
 
 // And what a put did.
@@ -38,20 +36,12 @@ mod tests {
     use grids::grids::Grid;
     use pane::panes::Pane;
     use pane::rectangles::Rectangle;
+    use places::{Size, Spot};
     use showing::show_row;
-    use terminal::spots::Spot;
     use terminal::terminals::Terminal;
     use text_cells::{Part, TextCell};
 
     const LETTER: ByteCell = ByteCell { byte: 97 };
-
-    // The number of a refusal, 0 for an accepted call.
-    fn number(answer: Result<(), Fault>) -> u8 {
-        match answer {
-            Ok(()) => 0,
-            Err(fault) => fault.number(),
-        }
-    }
 
     fn area(top: usize, left: usize, height: usize, width: usize) -> Rectangle {
         Rectangle {
@@ -62,150 +52,139 @@ mod tests {
         }
     }
 
-    fn at(row: usize, column: usize) -> Option<Spot> {
-        Some(Spot { row, column })
+    fn at(row: usize, column: usize) -> Spot {
+        Spot { row, column }
+    }
+
+    fn size(rows: usize, columns: usize) -> Size {
+        Size { rows, columns }
     }
 
     #[test]
     fn a_line_is_full_with_less_room_than_the_need(rt: HostRuntime) {
         let mut cells = [LETTER; 12];
         let mut line = [0u8; 8];
-        let mut dumb = Dumb::new(&mut cells, 2, 6, &mut line);
-        assert_eq!(rt; number(dumb.move_to(1, 2)), 0);
+        let mut dumb = Dumb::new(&mut cells, size(2, 6), &mut line);
+        assert_eq!(rt; dumb.move_to(at(1, 2)), Ok(()));
         assert_eq!(rt; dumb.room(), 4);
-        assert_eq!(rt; number(dumb.put(LETTER)), 0);
+        assert_eq!(rt; dumb.put(LETTER), Ok(()));
         assert_eq!(rt; dumb.room(), 3);
-        assert_eq!(rt;
-            (number(dumb.put(LETTER)), number(dumb.move_to(0, 0))),
-            (22, 22)
-        );
-        assert_eq!(rt;
-            (dumb.cursor(), dumb.tally(), dumb.sent()),
-            (at(1, 3), 1, 5)
-        );
+        assert_eq!(rt; dumb.put(LETTER), Err(Fault::LineFull));
+        assert_eq!(rt; dumb.move_to(at(0, 0)), Err(Fault::LineFull));
+        assert_eq!(rt; dumb.cursor(), Some(at(1, 3)));
+        assert_eq!(rt; (dumb.tally(), dumb.sent()), (1, 5));
         for (index, byte) in [0x1B, 0x3D, 33, 34, 97].iter().enumerate() {
             assert_eq!(rt; dumb.sent_byte(index), Some(*byte));
         }
         assert_eq!(rt; dumb.sent_byte(5), None);
+        assert_eq!(rt; dumb.sent_bytes(), [0x1B, 0x3D, 33, 34, 97].as_slice());
         dumb.empty();
-        assert_eq!(rt;
-            (dumb.room(), dumb.cursor(), dumb.sent_byte(0)),
-            (8, at(1, 3), None)
-        );
-        assert_eq!(rt;
-            (number(dumb.put(LETTER)), dumb.sent_byte(0)),
-            (0, Some(97))
-        );
+        assert_eq!(rt; dumb.room(), 8);
+        assert_eq!(rt; dumb.cursor(), Some(at(1, 3)));
+        assert_eq!(rt; dumb.sent_byte(0), None);
+        assert_eq!(rt; dumb.put(LETTER), Ok(()));
+        assert_eq!(rt; dumb.sent_byte(0), Some(97));
     }
 
     // What a move answers on a terminal of one spot over that line memory, and the room afterwards.
-    fn moved(line: &mut [u8]) -> (u8, usize) {
+    fn moved(line: &mut [u8]) -> (Result<(), Fault>, usize) {
         let mut cells = [LETTER];
-        let mut dumb = Dumb::new(&mut cells, 1, 1, line);
-        let answer = number(dumb.move_to(0, 0));
+        let mut dumb = Dumb::new(&mut cells, size(1, 1), line);
+        let answer = dumb.move_to(at(0, 0));
         (answer, dumb.room())
     }
 
     #[test]
     fn a_move_takes_the_last_four_bytes(rt: HostRuntime) {
-        assert_eq!(rt; moved(&mut []), (22, 0));
-        assert_eq!(rt; moved(&mut [0; 1]), (22, 1));
-        assert_eq!(rt; moved(&mut [0; 2]), (22, 2));
-        assert_eq!(rt; moved(&mut [0; 3]), (22, 3));
-        assert_eq!(rt; moved(&mut [0; 4]), (0, 0));
+        assert_eq!(rt; moved(&mut []), (Err(Fault::LineFull), 0));
+        assert_eq!(rt; moved(&mut [0; 1]), (Err(Fault::LineFull), 1));
+        assert_eq!(rt; moved(&mut [0; 2]), (Err(Fault::LineFull), 2));
+        assert_eq!(rt; moved(&mut [0; 3]), (Err(Fault::LineFull), 3));
+        assert_eq!(rt; moved(&mut [0; 4]), (Ok(()), 0));
     }
 
     #[test]
     fn past_the_last_column_the_cursor_is_unknown(rt: HostRuntime) {
         let mut cells = [LETTER; 12];
         let mut line = [0u8; 40];
-        let mut dumb = Dumb::new(&mut cells, 2, 6, &mut line);
-        assert_eq!(rt; number(dumb.put(LETTER)), 24);
-        assert_eq!(rt;
-            (number(dumb.move_to(0, 6)), number(dumb.move_to(2, 0))),
-            (21, 21)
-        );
-        assert_eq!(rt;
-            (number(dumb.move_to(0, 5)), number(dumb.put(LETTER))),
-            (0, 0)
-        );
-        assert_eq!(rt; (dumb.cursor(), number(dumb.put(LETTER))), (None, 24));
-        assert_eq!(rt; number(dumb.put(ByteCell { byte: 127 })), 23);
-        assert_eq!(rt;
-            (number(dumb.put_pair(LETTER, LETTER)), dumb.tally()),
-            (23, 1)
-        );
+        let mut dumb = Dumb::new(&mut cells, size(2, 6), &mut line);
+        assert_eq!(rt; dumb.put(LETTER), Err(Fault::CursorUnknown));
+        assert_eq!(rt; dumb.move_to(at(0, 6)), Err(Fault::OffGrid));
+        assert_eq!(rt; dumb.move_to(at(2, 0)), Err(Fault::OffGrid));
+        assert_eq!(rt; dumb.move_to(at(0, 5)), Ok(()));
+        assert_eq!(rt; dumb.put(LETTER), Ok(()));
+        assert_eq!(rt; dumb.cursor(), None);
+        assert_eq!(rt; dumb.put(LETTER), Err(Fault::CursorUnknown));
+        assert_eq!(rt; dumb.put(ByteCell { byte: 127 }), Err(Fault::NotDrawable));
+        assert_eq!(rt; dumb.put_pair(LETTER, LETTER), Err(Fault::NotDrawable));
+        assert_eq!(rt; dumb.tally(), 1);
     }
 
     #[test]
     fn a_pane_of_a_pane_counts_from_its_own_corner(rt: HostRuntime) {
         let mut cells = [LETTER; 40];
         let mut line = [0u8; 40];
-        let mut dumb = Dumb::new(&mut cells, 4, 10, &mut line);
+        let mut dumb = Dumb::new(&mut cells, size(4, 10), &mut line);
         let mut outer = Pane::new(&mut dumb, area(1, 2, 3, 6));
-        assert_eq!(rt; number(Pane::check(&mut outer, area(1, 1, 2, 4))), 0);
+        assert_eq!(rt; Pane::check(&outer, area(1, 1, 2, 4)), Ok(()));
         let mut inner = Pane::new(&mut outer, area(1, 1, 2, 4));
         assert_eq!(rt; (inner.rows(), inner.columns()), (2, 4));
-        assert_eq!(rt;
-            (number(inner.move_to(2, 0)), number(inner.move_to(0, 4))),
-            (21, 21)
-        );
-        assert_eq!(rt; number(inner.put(LETTER)), 24);
-        assert_eq!(rt;
-            (number(inner.move_to(1, 2)), inner.cursor()),
-            (0, at(1, 2))
-        );
-        assert_eq!(rt; number(inner.put_pair(LETTER, LETTER)), 23);
-        assert_eq!(rt;
-            (number(inner.put(LETTER)), number(inner.put(LETTER))),
-            (0, 0)
-        );
-        assert_eq!(rt;
-            (inner.cursor(), number(inner.put(LETTER)), inner.tally()),
-            (None, 24, 2)
-        );
-        assert_eq!(rt; (outer.cursor(), number(outer.put(LETTER))), (at(2, 5), 0));
-        assert_eq!(rt;
-            (outer.cursor(), dumb.cursor(), dumb.room()),
-            (None, at(3, 8), 33)
-        );
-        assert_eq!(rt;
-            (dumb.sent_byte(2), dumb.sent_byte(3)),
-            (Some(35), Some(37))
-        );
+        assert_eq!(rt; inner.move_to(at(2, 0)), Err(Fault::OffGrid));
+        assert_eq!(rt; inner.move_to(at(0, 4)), Err(Fault::OffGrid));
+        assert_eq!(rt; inner.put(LETTER), Err(Fault::CursorUnknown));
+        assert_eq!(rt; inner.move_to(at(1, 2)), Ok(()));
+        assert_eq!(rt; inner.cursor(), Some(at(1, 2)));
+        assert_eq!(rt; inner.put_pair(LETTER, LETTER), Err(Fault::NotDrawable));
+        assert_eq!(rt; inner.put(LETTER), Ok(()));
+        assert_eq!(rt; inner.put(LETTER), Ok(()));
+        assert_eq!(rt; inner.cursor(), None);
+        assert_eq!(rt; inner.put(LETTER), Err(Fault::CursorUnknown));
+        assert_eq!(rt; inner.tally(), 2);
+        assert_eq!(rt; outer.cursor(), Some(at(2, 5)));
+        assert_eq!(rt; outer.put(LETTER), Ok(()));
+        assert_eq!(rt; outer.cursor(), None);
+        assert_eq!(rt; dumb.cursor(), Some(at(3, 8)));
+        assert_eq!(rt; dumb.room(), 33);
+        assert_eq!(rt; dumb.sent_byte(2), Some(35));
+        assert_eq!(rt; dumb.sent_byte(3), Some(37));
     }
 
     #[test]
     fn a_row_is_shown_up_to_the_first_refusal(rt: HostRuntime) {
         let mut cells = [ByteCell { byte: 35 }; 6];
         let mut line = [0u8; 10];
-        let mut dumb = Dumb::new(&mut cells, 2, 3, &mut line);
-        assert_eq!(rt; number(show_row(&mut dumb, 0, &[LETTER; 4])), 24);
+        let mut dumb = Dumb::new(&mut cells, size(2, 3), &mut line);
+        assert_eq!(rt;
+            show_row(&mut dumb, 0, &[LETTER; 4]),
+            Err(Fault::CursorUnknown)
+        );
         assert_eq!(rt; (dumb.sent(), dumb.tally(), dumb.cursor()), (7, 3, None));
-        assert_eq!(rt; number(show_row(&mut dumb, 1, &[LETTER; 3])), 22);
-        assert_eq!(rt; number(show_row(&mut dumb, 2, &[])), 21);
+        assert_eq!(rt; show_row(&mut dumb, 1, &[LETTER; 3]), Err(Fault::LineFull));
+        assert_eq!(rt; show_row(&mut dumb, 2, &[]), Err(Fault::OffGrid));
         dumb.empty();
-        assert_eq!(rt; number(show_row(&mut dumb, 1, &[])), 0);
-        assert_eq!(rt; (dumb.sent(), dumb.cursor()), (4, at(1, 0)));
+        assert_eq!(rt; show_row(&mut dumb, 1, &[]), Ok(()));
+        assert_eq!(rt; (dumb.sent(), dumb.cursor()), (4, Some(at(1, 0))));
     }
 
     // What the check answers of a size over that memory, and the rows and columns of the terminal made so.
-    fn sized(rows: usize, columns: usize, cells: &mut [ByteCell]) -> (u8, usize, usize) {
-        let answer = number(Dumb::check(rows, columns, cells.len()));
+    fn sized(size: Size, cells: &mut [ByteCell]) -> (Result<(), Fault>, usize, usize) {
+        let answer = Dumb::check(size, cells.len());
         let mut line = [0u8; 8];
-        let mut dumb = Dumb::new(cells, rows, columns, &mut line);
+        let dumb = Dumb::new(cells, size, &mut line);
         (answer, dumb.rows(), dumb.columns())
     }
 
     #[test]
     fn unfit_sizes_are_refused_and_have_no_rows(rt: HostRuntime) {
-        assert_eq!(rt; sized(0, 3, &mut []), (1, 0, 0));
-        assert_eq!(rt; sized(25, 1, &mut [LETTER; 25]), (1, 0, 0));
-        assert_eq!(rt; sized(1, 81, &mut [LETTER; 81]), (1, 0, 0));
-        assert_eq!(rt; sized(2, 3, &mut [LETTER; 5]), (15, 0, 0));
-        assert_eq!(rt; sized(1, 1, &mut []), (15, 0, 0));
-        assert_eq!(rt; sized(24, 1, &mut [LETTER; 24]), (0, 24, 1));
-        assert_eq!(rt; sized(1, 80, &mut [LETTER; 80]), (0, 1, 80));
+        let bad = (Err(Fault::BadSize), 0, 0);
+        let unfit = (Err(Fault::MemoryLength), 0, 0);
+        assert_eq!(rt; sized(size(0, 3), &mut []), bad);
+        assert_eq!(rt; sized(size(25, 1), &mut [LETTER; 25]), bad);
+        assert_eq!(rt; sized(size(1, 81), &mut [LETTER; 81]), bad);
+        assert_eq!(rt; sized(size(2, 3), &mut [LETTER; 5]), unfit);
+        assert_eq!(rt; sized(size(1, 1), &mut []), unfit);
+        assert_eq!(rt; sized(size(24, 1), &mut [LETTER; 24]), (Ok(()), 24, 1));
+        assert_eq!(rt; sized(size(1, 80), &mut [LETTER; 80]), (Ok(()), 1, 80));
     }
 
     #[test]
@@ -213,30 +192,22 @@ mod tests {
         let mut none: [TextCell; 0] = [];
         let mut grid = Grid {
             cells: &mut none,
-            rows: 0,
-            columns: 0,
+            size: Size::NONE,
         };
         let letter = TextCell::new(97, Part::Single, 0);
-        assert_eq!(rt;
-            (grid.rows(), grid.columns(), grid.cell(0, 0)),
-            (0, 0, None)
-        );
-        assert_eq!(rt; number(grid.put(0, 0, letter)), 21);
+        assert_eq!(rt; (grid.rows(), grid.columns()), (0, 0));
+        assert_eq!(rt; grid.cell(at(0, 0)), None);
+        assert_eq!(rt; grid.put(at(0, 0), letter), Err(Fault::OffGrid));
     }
 
     // What the check answers of a rectangle, the rows and columns of the pane made on it, and what a move to its corner answers.
-    fn framed(rectangle: Rectangle) -> (u8, usize, usize, u8) {
+    fn framed(rectangle: Rectangle) -> (Result<(), Fault>, usize, usize, Result<(), Fault>) {
         let mut cells = [LETTER; 12];
         let mut line = [0u8; 8];
-        let mut dumb = Dumb::new(&mut cells, 2, 6, &mut line);
-        let answer = number(Pane::check(&mut dumb, rectangle));
+        let mut dumb = Dumb::new(&mut cells, size(2, 6), &mut line);
+        let answer = Pane::check(&dumb, rectangle);
         let mut pane = Pane::new(&mut dumb, rectangle);
-        (
-            answer,
-            pane.rows(),
-            pane.columns(),
-            number(pane.move_to(0, 0)),
-        )
+        (answer, pane.rows(), pane.columns(), pane.move_to(at(0, 0)))
     }
 
     #[test]
@@ -250,9 +221,12 @@ mod tests {
             area(most, most, most, most),
         ];
         for rectangle in unfit {
-            assert_eq!(rt; framed(rectangle), (5, 0, 0, 21));
+            assert_eq!(rt;
+                framed(rectangle),
+                (Err(Fault::Outside), 0, 0, Err(Fault::OffGrid))
+            );
         }
-        assert_eq!(rt; framed(area(0, 0, 2, 6)), (0, 2, 6, 0));
+        assert_eq!(rt; framed(area(0, 0, 2, 6)), (Ok(()), 2, 6, Ok(())));
     }
 
     #[test]
@@ -264,25 +238,18 @@ mod tests {
         let mut two = [left, right];
         let mut grid = Grid {
             cells: &mut two,
-            rows: 1,
-            columns: 2,
+            size: size(1, 2),
         };
-        assert_eq!(rt;
-            (
-                number(grid.put(0, 2, letter)),
-                number(grid.put_pair(0, 1, left, right)),
-            ),
-            (21, 21)
-        );
-        assert_eq!(rt; number(grid.put(0, 0, letter)), 0);
+        assert_eq!(rt; grid.put(at(0, 2), letter), Err(Fault::OffGrid));
+        assert_eq!(rt; grid.put_pair(at(0, 1), left, right), Err(Fault::OffGrid));
+        assert_eq!(rt; grid.put(at(0, 0), letter), Ok(()));
         assert_eq!(rt; two, [letter, blank]);
         let mut four = [left, right, left, right];
         let mut grid = Grid {
             cells: &mut four,
-            rows: 1,
-            columns: 4,
+            size: size(1, 4),
         };
-        assert_eq!(rt; number(grid.put_pair(0, 1, left, right)), 0);
+        assert_eq!(rt; grid.put_pair(at(0, 1), left, right), Ok(()));
         assert_eq!(rt; four, [blank, left, right, blank]);
     }
 }

@@ -1,6 +1,7 @@
 -- Outside the touched ranges the picture is as it was.
 use Rattle.std.proofs.Common.{◌≡◌, ℕ, Bool, false, ◌||◌, List, [], ◌∷◌, ◌++◌, length, get_or, Some, None, Option, sym, refl, ap, ◌∙◌, subst, inl, inr, arith}
 use Rattle.std.proofs.lemmas.Bool.{both_ways, cases_Bool, cond-true, cond-false, or_parts}
+use Rattle.places.specs.declared.Spot.{Spot}
 use Rattle.cells.specs.Kinds.{Layer, Glyph}
 use Rattle.orders.specs.Orders.{has, without}
 use Rattle.ranges.specs.Ranges.{Range, inside}
@@ -68,13 +69,13 @@ module _ {C : Type 0} (l : Layer C) (g : Glyph C) (s : State) (memory : List C) 
       let parts = or_parts (covers (Some p) r x) (covers (Some q) r x) f in
       raw_given l memory s.deck number q r x (λ n t k. (ap (λ (m : ℕ). covers (panel_of s.deck m) r x) k ∙ ap (λ (o : Option Panel). covers o r x) (sym e) ∙ parts.0, parts.1)))
 
-  relocated_only : (number row column : ℕ) (o : Option Panel) → o ≡ panel_of s.deck number → OnlyTouched l g s memory (relocated s number o row column) memory
-  relocated_only number row column None e = only_same s memory refl (λ r x. refl)
-  relocated_only number row column (Some p) e =
+  relocated_only : (number : ℕ) (to : Spot) (o : Option Panel) → o ≡ panel_of s.deck number → OnlyTouched l g s memory (relocated s number o to) memory
+  relocated_only number to None e = only_same s memory refl (λ r x. refl)
+  relocated_only number to (Some p) e =
       elim (cases_Bool (is_shown s.deck number)) [
-        | inl t ↦ subst (λ (x : State). OnlyTouched l g s memory x memory) (sym (cond-true (is_shown s.deck number) _ _ t)) (only_moved number p (moved_to p row column) e)
-        | inr f ↦ subst (λ (x : State). OnlyTouched l g s memory x memory) (sym (cond-false (is_shown s.deck number) _ _ f)) (only_given number (moved_to p row column) f)
+        | inl t ↦ subst (λ (x : State). OnlyTouched l g s memory x memory) (sym (cond-true (is_shown s.deck number) _ _ t)) (only_moved number p (moved_to p to.row to.column) e)
+        | inr f ↦ subst (λ (x : State). OnlyTouched l g s memory x memory) (sym (cond-false (is_shown s.deck number) _ _ f)) (only_given number (moved_to p to.row to.column) f)
       ]
 
-  pub only_relocated : (number row column : ℕ) → OnlyTouched l g s memory (relocated_panel s number row column) memory
-  only_relocated number row column = relocated_only number row column (panel_of s.deck number) refl
+  pub only_relocated : (number : ℕ) (to : Spot) → OnlyTouched l g s memory (relocated_panel s number to) memory
+  only_relocated number to = relocated_only number to (panel_of s.deck number) refl

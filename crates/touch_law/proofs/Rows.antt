@@ -1,9 +1,9 @@
 -- A row of the picture changes only beside raw cells that change.
-use Rattle.std.proofs.Common.{◌≡◌, ℕ, zero, suc, ◌<◌, ◌≤◌, Bool, false, ◌||◌, map, Some, None, Option, sym, refl, ap, ◌∙◌, inl, inr, arith}
+use Rattle.std.proofs.Common.{◌≡◌, ℕ, zero, suc, ◌<◌, ◌≤◌, Bool, false, map, Some, None, Option, sym, refl, ap, ◌∙◌, inl, inr, arith}
 use Rattle.std.specs.List.{slice_get, range_with_len}
 use Rattle.std.proofs.lemmas.List.FromFn.{length-map-range_with_len, get_or-map-range_with_len}
 use Rattle.std.proofs.lemmas.Option.{slice_get-get_or, slice_get_past}
-use Rattle.std.proofs.lemmas.Bool.{both_ways, cases_Bool, cases_lt, or_parts}
+use Rattle.std.proofs.lemmas.Bool.{cases_lt}
 use Rattle.cells.specs.Kinds.{Layer, Glyph}
 use Rattle.cells.specs.Rows.{before, after, mended_cell, mended}
 use Rattle.cells.proofs.Mending.{slice_get-mended}
@@ -20,17 +20,14 @@ module _ {C : Type 0} (f : ℕ → C) (n : ℕ) where
 
 -- what is not near a hit spot has no hit spot beside it
 near_false : (hit : ℕ → Bool) (c : ℕ) → near hit c ≡ false → (hit_before hit c ≡ false) × (hit c ≡ false) × (hit (suc c) ≡ false)
-near_false hit c e =
-    let one = or_parts (hit_before hit c) (hit c || hit (suc c)) e in
-    let two = or_parts (hit c) (hit (suc c)) one.1 in
-    (one.0, two.0, two.1)
+near_false hit c e = grind arith
 
 module _ {C : Type 0} (l : Layer C) (g : Glyph C) (f h : ℕ → C) (n : ℕ) (hit : ℕ → Bool) (same : (x : ℕ) → x < n → hit x ≡ false → f x ≡ h x) where
   same_at : (x : ℕ) → hit x ≡ false → slice_get (map f (range_with_len 0 n)) x ≡ slice_get (map h (range_with_len 0 n)) x
   same_at x e =
       elim (cases_lt x n) [
-        | inl b ↦ slice_get-row f n x b ∙ ap Some (same x b e) ∙ sym (slice_get-row h n x b)
-        | inr b ↦ slice_get_row_past f n x b ∙ sym (slice_get_row_past h n x b)
+        | inl b ↦ rw (slice_get-row f n x b, slice_get-row h n x b, same x b e) refl
+        | inr b ↦ rw (slice_get_row_past f n x b, slice_get_row_past h n x b) refl
       ]
 
   same_before : (x : ℕ) → hit_before hit x ≡ false → before (map f (range_with_len 0 n)) x ≡ before (map h (range_with_len 0 n)) x
@@ -49,11 +46,7 @@ module _ {C : Type 0} (l : Layer C) (g : Glyph C) (f h : ℕ → C) (n : ℕ) (h
 
 -- outside the touched range nothing is near a hit spot
 pub outside_near : (n : ℕ) (old : Option Range) (hit : ℕ → Bool) (c : ℕ) → c < n → inside (touched_row n old hit) c ≡ false → near hit c ≡ false
-outside_near n old hit c b e =
-    elim (cases_Bool (near hit c)) [
-      | inl t ↦ absurd (both_ways (inside (touched_row n old hit) c) e (touched_holds n old hit c b t))
-      | inr f ↦ f
-    ]
+outside_near n old hit c b e = let holds = touched_holds n old hit c b in grind arith
 
 -- nothing is near no spot
 pub near_none : (c : ℕ) → near (λ _. false) c ≡ false

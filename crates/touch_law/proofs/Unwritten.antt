@@ -1,17 +1,18 @@
 -- Cells that a call on windows does not write.
 use Rattle.std.proofs.Common.{◌≡◌, ℕ, ◌+◌, ◌-◌, ◌<◌, Bool, true, false, List, length, get_or, take, Some, None, Option, sym, refl, ap, ◌∙◌, inl, inr, arith}
-use Rattle.std.proofs.lemmas.List.{get_or_default, get_or_past, get_or-take, length-take}
-use Rattle.std.proofs.lemmas.Bool.{cases_Bool, cases_lt, cond-false, or_from, or_parts, and_left, and_right, ltb-true}
+use Rattle.std.proofs.lemmas.List.{get_or_default, get_or-take, length-take}
+use Rattle.std.proofs.lemmas.Bool.{cases_Bool, cond-false, and_left, and_right, ltb-true}
 use Rattle.std.proofs.lemmas.Bool.Decides.{nat_tests}
+use Rattle.std.proofs.lemmas.Grind.{common_steps}
 use Rattle.cells.specs.Kinds.{Layer, Glyph}
-use Rattle.areas.specs.Addresses.{area, in_span, in_rows, in_area, row_part, address, ends_below}
+use Rattle.areas.specs.Addresses.{area, in_span, in_area, row_part, address, ends_below}
 use Rattle.areas.specs.Memories.{by_address}
 use Rattle.areas.specs.declared.Area.{Area}
 use Rattle.areas.proofs.AddressLaws.{one_row, rows_push, row_end}
 use Rattle.areas.proofs.AreaEnds.{Ends, ends_facts}
 use Rattle.areas.proofs.MemoryLaws.{length-by_address, get_or-by_address}
 use Rattle.cell_memory.specs.Writing.{cell_at, filled, written}
-use Rattle.windows.specs.Cells.{last_row, scrolled, either_end, on_corner, on_end_row, on_side_column, on_edge, cell_of, edged}
+use Rattle.windows.specs.Cells.{last_row, scrolled, on_corner, on_edge, edged}
 use Rattle.windows.specs.Tables.{table_of, is_window, area_of}
 use Rattle.windows.specs.declared.records.Windows.{Windows}
 use Rattle.panels.specs.Places.{covers, spot_address, shows}
@@ -20,11 +21,8 @@ use Rattle.panels.proofs.SmallPanels.{covered_row, covered_column}
 use Rattle.screen.specs.Views.{view_below}
 
 -- a corner lies in an end row
-no_end : (from width x : ℕ) → 0 < width → in_span from width x ≡ false → either_end from width x ≡ false
-no_end from width x wide e = grind (arith, nat_tests)
-
 no_corner : (a : Area) (x : ℕ) → 0 < a.width → in_span a.base a.width x ≡ false → in_span (last_row a) a.width x ≡ false → on_corner a x ≡ false
-no_corner a x wide e f = or_from _ _ (no_end a.base a.width x wide e) (no_end (last_row a) a.width x wide f)
+no_corner a x wide e f = grind (arith, nat_tests)
 
 -- a window of a table has rows and columns
 pub window_ends : (w : Windows) (window : ℕ) → is_window (table_of w) window ≡ true → Ends w.taken (area_of (table_of w) window)
@@ -40,7 +38,7 @@ past_unshown taken count (Some p) r c e =
     elim (cases_Bool (covers (Some p) r c)) [
       | inl t ↦
           let ends = ends_facts taken p.view e in
-          let low = row_end p.view.base p.view.pitch p.view.height p.view.width (r - p.row) taken (covered_row p r c t) ends.last in
+          let low = row_end p.view.base p.view.pitch p.view.height p.view.width (r - p.at.row) taken (covered_row p r c t) ends.last in
           let right = covered_column p r c t in
           let past : in_span taken count (spot_address (Some p) r c) ≡ false = grind (arith, nat_tests) in
           and_right (covers (Some p) r c) _ past
@@ -53,10 +51,10 @@ module _ {C : Type 0} (l : Layer C) (memory : List C) where
 
   kept_cell : (f : ℕ → C) (x : ℕ) → f x ≡ cell_at l memory x → get_or (by_address memory f) x l.punched ≡ get_or memory x l.punched
   kept_cell f x e =
-      elim (cases_lt x (length memory)) [
-        | inl h ↦ get_or-by_address memory f x l.punched h ∙ e ∙ get_or_default memory x l.blank l.punched h
-        | inr h ↦ get_or_past (by_address memory f) x l.punched (omega (arith, length-by_address memory f)) ∙ sym (get_or_past memory x l.punched h)
-      ]
+      let long = length-by_address memory f in
+      let new = get_or-by_address memory f x l.punched in
+      let blank = get_or_default memory x l.blank l.punched in
+      grind (arith, common_steps)
 
   pub written_kept : (a : Area) (row column : ℕ) (cells : List C) → Kept (in_area (row_part a row column (length cells))) (by_address memory (written l memory (address a row column) cells))
   written_kept a row column cells x e =
@@ -72,15 +70,10 @@ module _ {C : Type 0} (l : Layer C) (memory : List C) where
   pub scrolled_kept : (a : Area) → 0 < a.height → Kept (in_area a) (by_address memory (scrolled l memory a))
   scrolled_kept a tall x e =
       let height : a.height ≡ a.height - 1 + 1 = omega arith in
-      let parts = or_parts (in_rows a.base a.pitch (a.height - 1) a.width x) (in_span (last_row a) a.width x) (sym (rows_push a.base a.pitch (a.height - 1) a.width x) ∙ ap (λ (n : ℕ). in_rows a.base a.pitch n a.width x) (sym height) ∙ e) in
-      kept_cell (scrolled l memory a) x (cond-false _ (cell_at l memory (x + a.pitch)) _ parts.0 ∙ cond-false _ l.blank (cell_at l memory x) parts.1)
+      let rows = rows_push a.base a.pitch (a.height - 1) a.width x in
+      kept_cell (scrolled l memory a) x (grind (arith, nat_tests))
 
   pub edged_kept : (g : Glyph C) (a : Area) (attributes : ℕ) → 0 < a.width → Kept (on_edge a) (by_address memory (edged l g memory a attributes))
   edged_kept g a attributes wide x e =
-      let parts = or_parts (on_end_row a x) (on_side_column a a.height x) e in
-      let ends = or_parts (in_span a.base a.width x) (in_span (last_row a) a.width x) parts.0 in
-      let one = ends.0 in
-      let two = ends.1 in
-      let corner : on_corner a x ≡ false = no_corner a x wide one two in
-      kept_cell (edged l g memory a attributes) x
-      (cond-false _ (cell_of l g attributes 43) _ corner ∙ cond-false _ (cell_of l g attributes 45) _ parts.0 ∙ cond-false _ (cell_of l g attributes 124) (cell_at l memory x) parts.1)
+      let ends : in_span a.base a.width x ≡ false → in_span (last_row a) a.width x ≡ false → on_corner a x ≡ false = no_corner a x wide in
+      kept_cell (edged l g memory a attributes) x (grind (arith, common_steps))

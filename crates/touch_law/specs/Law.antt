@@ -1,6 +1,9 @@
 -- Which spots of the picture a call may change.
 use Rattle.std.specs.Prelude.{◌≡◌, ℕ, ◌*◌, ◌<◌, true, false, List, length, None, slice_index_or}
 use Rattle.std.specs.List.{slice_get}
+use Rattle.places.specs.declared.Spot.{Spot}
+use Rattle.places.specs.declared.Size.{Size}
+use Rattle.places.specs.declared.Rectangle.{Rectangle}
 use Rattle.cells.specs.Kinds.{Layer, Glyph}
 use Rattle.areas.specs.Addresses.{address, row_part, in_area}
 use Rattle.areas.specs.Memories.{by_address}
@@ -27,14 +30,14 @@ module _ {C : Type 0} (l : Layer C) (g : Glyph C) (s : State) (memory : List C) 
     pub hide : (number : ℕ) → OnlyTouched (hidden_panel s number) memory
     pub raise : (number : ℕ) → OnlyTouched (raised_panel s number) memory
     pub lower : (number : ℕ) → OnlyTouched (lowered_panel s number) memory
-    pub relocate : (number row column : ℕ) → OnlyTouched (relocated_panel s number row column) memory
+    pub relocate : (number : ℕ) (to : Spot) → OnlyTouched (relocated_panel s number to) memory
     -- a panel that is given is hidden
-    pub panel : (number window view_row view_column height width row column : ℕ) → is_shown s.deck number ≡ false → OnlyTouched (given_panel s number window view_row view_column height width row column) memory
+    pub panel : (number window : ℕ) (view : Rectangle) (at : Spot) → is_shown s.deck number ≡ false → OnlyTouched (given_panel s number window view at) memory
 
   -- the calls on windows
   pub record WindowCallsTouch : Type 0 where
-    pub window : (height width : ℕ) → OnlyTouched (with_table s (with_window s.table height width)) (by_address memory (filled l memory s.table.taken (height * width) l.blank))
-    pub write : (window row column : ℕ) (cells : List C) → OnlyTouched (touched_at s (hit s.deck (in_area (row_part (area_of s.table window) row column (length cells))))) (by_address memory (written l memory (address (area_of s.table window) row column) cells))
-    pub punch : (window row column count : ℕ) → OnlyTouched (touched_at s (hit s.deck (in_area (row_part (area_of s.table window) row column count)))) (by_address memory (filled l memory (address (area_of s.table window) row column) count l.punched))
+    pub window : (z : Size) → OnlyTouched (with_table s (with_window s.table z)) (by_address memory (filled l memory s.table.taken (z.rows * z.columns) l.blank))
+    pub write : (window : ℕ) (at : Spot) (cells : List C) → OnlyTouched (touched_at s (hit s.deck (in_area (row_part (area_of s.table window) at.row at.column (length cells))))) (by_address memory (written l memory (address (area_of s.table window) at.row at.column) cells))
+    pub punch : (window : ℕ) (at : Spot) (count : ℕ) → OnlyTouched (touched_at s (hit s.deck (in_area (row_part (area_of s.table window) at.row at.column count)))) (by_address memory (filled l memory (address (area_of s.table window) at.row at.column) count l.punched))
     pub scroll : (window : ℕ) → is_window s.table window ≡ true → OnlyTouched (touched_at s (hit s.deck (in_area (area_of s.table window)))) (by_address memory (scrolled l memory (area_of s.table window)))
     pub box : (window attributes : ℕ) → is_window s.table window ≡ true → OnlyTouched (touched_at s (hit s.deck (on_edge (area_of s.table window)))) (by_address memory (edged l g memory (area_of s.table window) attributes))

@@ -10,31 +10,21 @@ ghost use Rattle.touch_law.specs.Law.{PanelCallsTouch, WindowCallsTouch};
 
 use cells::kinds::TerminalCell;
 use faults::Fault;
+use places::Spot;
 use screen::records::Screen;
-
-// Does a range hold a column?
-fn is_inside(range: Option<(usize, usize)>, column: usize) -> bool
-    ensures { result ≡ inside range column }
-{
-    match range {
-        Some((first, last)) => first <= column && column <= last,
-        None => false,
-    }
-}
 
 // Is a spot in the touched range of its row? Only such a spot may show another cell of the picture than before the last call:
 // that holds of every record and every window memory, for each call that may come next.
 pub fn is_touched<C: TerminalCell>(
     screen: &Screen,
     _memory: &[C],
-    row: usize,
-    column: usize,
+    spot: Spot,
 ) -> Result<bool, Fault>
-    ensures refusal { fault_of result ≡ row_refusal (state_of screen.now) row }
-    ensures told { IfOk result (λ b. b ≡ inside (slice_index_or (state_of screen.now).ranges row None) column) }
+    ensures refusal { fault_of result ≡ row_refusal (state_of screen.now) spot.row }
+    ensures told { IfOk result (λ b. b ≡ inside (slice_index_or (state_of screen.now).ranges spot.row None) spot.column) }
     ensures panel_calls { PanelCallsTouch C.LayerCell.layer C.TerminalCell.glyph (state_of screen.now) _memory.now }
     ensures window_calls { WindowCallsTouch C.LayerCell.layer C.TerminalCell.glyph (state_of screen.now) _memory.now }
 {
-    let range = screen.touched(row)?;
-    Ok(is_inside(range, column))
+    let range = screen.touched(spot.row)?;
+    Ok(range.is_some_and(|(first, last)| (first..=last).contains(&spot.column)))
 }

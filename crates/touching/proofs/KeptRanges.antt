@@ -1,7 +1,8 @@
 -- The ranges that are kept, as the list of rows.
-use Rattle.std.proofs.Common.{◌≡◌, ℕ, zero, suc, ◌<◌, ◌≤◌, Bool, true, ◌&&◌, eqb, List, [], ◌∷◌, length, get_or, take, set, replicate, None, Option, sym, refl, ap, ◌∙◌, inl, inr, arith}
-use Rattle.std.proofs.lemmas.List.{get_or-take, length-take, length-take-le, get_or-set_same, get_or-set_other, set_past}
-use Rattle.std.proofs.lemmas.Bool.{cases_lt, cases_eq, ne_eqb}
+use Rattle.std.proofs.Common.{◌≡◌, ℕ, zero, suc, ◌<◌, ◌≤◌, Bool, true, ◌&&◌, eqb, List, [], ◌∷◌, length, get_or, take, set, replicate, None, Option, sym, refl, ap, ◌∙◌, arith}
+use Rattle.std.proofs.lemmas.List.{get_or-take, length-take, length-take-le, set_past}
+use Rattle.std.proofs.lemmas.Bool.{ne_eqb}
+use Rattle.std.proofs.lemmas.Grind.{common_steps}
 use Rattle.ranges.specs.Ranges.{Range, range_fits, touched_row, touch}
 use Rattle.ranges.proofs.Touches.{AllFit, touch_one, touch_none}
 
@@ -13,26 +14,15 @@ abbrev pub AllKept : ℕ → Ranges → Type 0
 AllKept n ranges = (row : ℕ) → range_fits n (get_or ranges row None) ≡ true
 
 pub none_fits : (n m : ℕ) → AllKept n (replicate m None)
-none_fits n zero row = refl
-none_fits n (suc m) zero = refl
-none_fits n (suc m) (suc row) = none_fits n m row
+none_fits n m row = grind (arith, common_steps)
 
 -- also where one is written anew
 pub set-fits : (n : ℕ) (ranges : Ranges) (row : ℕ) (new : Option Range) → AllKept n ranges → range_fits n new ≡ true → AllKept n (set ranges row new)
-set-fits n ranges row new f g r =
-    elim (cases_lt row (length ranges)) [
-      | inl b ↦
-          elim (cases_eq r row) [
-            | inl e ↦ rw e (rw (get_or-set_same ranges row new None b) g)
-            | inr ne ↦ rw (get_or-set_other ranges row r new None ne) (f r)
-          ]
-      | inr b ↦ rw (set_past ranges row new b) (f r)
-    ]
+set-fits n ranges row new f g r = let h = f r in grind (arith, common_steps, set_past)
 
 -- of the kept ranges those of the rows
 pub taken_fit : (n rows : ℕ) (ranges : Ranges) → AllKept n ranges → AllFit n (take rows ranges)
-taken_fit n rows ranges f r h =
-    let b : r < rows = omega (arith, length-take rows ranges) in rw (get_or-take rows ranges r None b) (f r)
+taken_fit n rows ranges f r h = let k = f r in grind (arith, common_steps)
 
 pub take_set_any : {X : Type 0} (n : ℕ) (xs : List X) (i : ℕ) (x : X) → take n (set xs i x) ≡ set (take n xs) i x
 take_set_any zero xs i x = refl

@@ -6,7 +6,7 @@ use Rattle.touching.specs.declared.records.Touched.{Touched}
 
 -- each row's range or none, from the top
 abbrev pub ranges_of : Touched → List (Option Range)
-ranges_of t = take t.rows t.ranges
+ranges_of t = take t.size.rows t.ranges
 
 -- the spots of a rectangle
 abbrev pub in_rectangle : ℕ → ℕ → ℕ → ℕ → ℕ → ℕ → Bool
@@ -19,6 +19,5 @@ in_run at first last row column = row == at && within first last column
 
 -- spots were touched, and the size is as before
 pub record Touching (t u : Touched) (hit : ℕ → ℕ → Bool) : Type 0 where
-  pub rows : u.rows ≡ t.rows
-  pub columns : u.columns ≡ t.columns
-  pub ranges : ranges_of u ≡ touch t.columns (ranges_of t) hit
+  pub size : u.size ≡ t.size
+  pub ranges : ranges_of u ≡ touch t.size.columns (ranges_of t) hit

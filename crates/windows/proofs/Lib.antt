@@ -1,6 +1,4 @@
 -- Lemmas for the proofs of this crate and of those above it.
 pub mod TextWidths
-pub mod AreaTables
-pub mod Tests
 pub mod Scrolling
 pub mod Drawn

@@ -1,13 +1,13 @@
 -- The rows of an area moved up one after another.
-use Rattle.std.proofs.Common.{◌≡◌, ℕ, zero, suc, ◌+◌, ◌-◌, ◌*◌, ◌<◌, ◌≤◌, Bool, true, false, cond, ◌||◌, List, length, get_or, sym, ap, ◌∙◌, ap₂, inl, inr, add-zero, suc-mul, arith}
-use Rattle.std.proofs.lemmas.List.{get_or_past, get_or_default}
-use Rattle.std.proofs.lemmas.Bool.{cases_Bool, cases_lt, both_ways, cond-true, cond-false, or_right}
+use Rattle.std.proofs.Common.{◌≡◌, ℕ, zero, suc, ◌+◌, ◌-◌, ◌*◌, ◌<◌, ◌≤◌, true, cond, List, length, get_or, sym, ap, ◌∙◌, ap₂, suc-mul, arith}
+use Rattle.std.proofs.lemmas.List.{get_or_default}
+use Rattle.std.proofs.lemmas.Bool.{both_ways, cond-false}
+use Rattle.std.proofs.lemmas.Grind.{common_steps}
 use Rattle.std.proofs.lemmas.Bool.Decides.{nat_tests}
 use Rattle.cells.specs.Kinds.{Layer}
-use Rattle.areas.specs.Addresses.{in_span, in_rows}
+use Rattle.areas.specs.Addresses.{in_rows}
 use Rattle.areas.specs.Memories.{by_address}
 use Rattle.areas.specs.declared.Area.{Area}
-use Rattle.areas.proofs.Bools.{or_false}
 use Rattle.areas.proofs.AddressLaws.{rows_push, rows_below, no_row}
 use Rattle.areas.proofs.MemoryLaws.{by_address_like, by_address_twice, by_address_same, get_or-by_address, length-by_address}
 use Rattle.cell_memory.specs.Writing.{cell_at, shifted, filled}
@@ -32,57 +32,36 @@ module _ {C : Type 0} (l : Layer C) (memory : List C) (a : Area) where
   -- a cell past the rows that were moved is as it was
   past_moved : (rows x : ℕ) → a.width ≤ a.pitch → a.base + rows * a.pitch ≤ x → get_or (by_address memory (moved_up l memory a rows)) x l.blank ≡ cell_at l memory x
   past_moved rows x apart h =
-      elim (cases_lt x (length memory)) [
-        | inl b ↦
-            get_or-by_address memory (moved_up l memory a rows) x l.blank b
-            ∙ elim (cases_Bool (in_rows a.base a.pitch rows a.width x)) [
-              | inl t ↦ absurd (omega (arith, rows_end a.base a.pitch rows a.width x apart t))
-              | inr f ↦ cond-false _ (cell_at l memory (x + a.pitch)) (cell_at l memory x) f
-            ]
-        | inr b ↦
-            get_or_past (by_address memory (moved_up l memory a rows)) x l.blank (omega (arith, length-by_address memory (moved_up l memory a rows)))
-            ∙ sym (get_or_past memory x l.blank b)
-      ]
+      let high = rows_end a.base a.pitch rows a.width x apart in
+      let long = length-by_address memory (moved_up l memory a rows) in
+      let old = get_or-by_address memory (moved_up l memory a rows) x l.blank in
+      grind (arith, nat_tests, common_steps)
 
   step_at : (row x : ℕ) → a.width ≤ a.pitch → x < length memory → shifted l (by_address memory (moved_up l memory a row)) (a.base + row * a.pitch) a.pitch a.width x ≡ moved_up l memory a (row + 1) x
   step_at row x apart h =
-      elim (cases_Bool (in_span (a.base + row * a.pitch) a.width x)) [
-        | inl t ↦
-            let low : a.base + row * a.pitch ≤ x = grind (arith, nat_tests) in
-            cond-true _ (get_or (by_address memory (moved_up l memory a row)) (x + a.pitch) l.blank) _ t
-            ∙ past_moved row (x + a.pitch) apart (omega arith)
-            ∙ sym (cond-true _ (cell_at l memory (x + a.pitch)) (cell_at l memory x) (rows_push a.base a.pitch row a.width x ∙ or_right _ _ t))
-        | inr f ↦
-            cond-false _ (get_or (by_address memory (moved_up l memory a row)) (x + a.pitch) l.blank) _ f
-            ∙ get_or-by_address memory (moved_up l memory a row) x l.blank h
-            ∙ ap (λ (b : Bool). cond b (cell_at l memory (x + a.pitch)) (cell_at l memory x)) (sym (rows_push a.base a.pitch row a.width x ∙ ap (λ (b : Bool). in_rows a.base a.pitch row a.width x || b) f ∙ or_false (in_rows a.base a.pitch row a.width x)))
-      ]
+      let past = past_moved row (x + a.pitch) apart in
+      let old = get_or-by_address memory (moved_up l memory a row) x l.blank h in
+      let more = rows_push a.base a.pitch row a.width x in
+      grind (arith, nat_tests, common_steps)
 
   -- one row more
-  pub moved_more : (row at : ℕ) (now : List C) → a.width ≤ a.pitch → at ≡ a.base + row * a.pitch + 0 → now ≡ by_address memory (moved_up l memory a row) → by_address now (shifted l now at a.pitch a.width) ≡ by_address memory (moved_up l memory a (row + 1))
+  pub moved_more : (row at : ℕ) (now : List C) → a.width ≤ a.pitch → at ≡ a.base + row * a.pitch → now ≡ by_address memory (moved_up l memory a row) → by_address now (shifted l now at a.pitch a.width) ≡ by_address memory (moved_up l memory a (row + 1))
   moved_more row at now apart place e =
-      ap (λ (n : ℕ). by_address now (shifted l now n a.pitch a.width)) (place ∙ add-zero _)
+      ap (λ (n : ℕ). by_address now (shifted l now n a.pitch a.width)) place
       ∙ ap (λ (m : List C). by_address m (shifted l m (a.base + row * a.pitch) a.pitch a.width)) e
       ∙ by_address_twice memory (moved_up l memory a row) _
       ∙ by_address_like memory _ (moved_up l memory a (row + 1)) (λ x h. step_at row x apart h)
 
   last_at : (x : ℕ) → a.width ≤ a.pitch → x < length memory → filled l (by_address memory (moved_up l memory a (a.height - 1))) (last_row a) a.width l.blank x ≡ scrolled l memory a x
   last_at x apart h =
-      let was = get_or-by_address memory (moved_up l memory a (a.height - 1)) x l.blank h in
-      elim (cases_Bool (in_rows a.base a.pitch (a.height - 1) a.width x)) [
-        | inl t ↦
-            let high = rows_end a.base a.pitch (a.height - 1) a.width x apart t in
-            let below : in_span (last_row a) a.width x ≡ false = grind (arith, nat_tests) in
-            cond-false _ l.blank _ below ∙ was ∙ cond-true _ (cell_at l memory (x + a.pitch)) (cell_at l memory x) t ∙ sym (cond-true _ (cell_at l memory (x + a.pitch)) _ t)
-        | inr f ↦
-            ap (λ (c : C). cond (in_span (last_row a) a.width x) l.blank c) (was ∙ cond-false _ (cell_at l memory (x + a.pitch)) (cell_at l memory x) f)
-            ∙ sym (cond-false _ (cell_at l memory (x + a.pitch)) _ f)
-      ]
+      let high = rows_end a.base a.pitch (a.height - 1) a.width x apart in
+      let old = get_or-by_address memory (moved_up l memory a (a.height - 1)) x l.blank h in
+      grind (arith, nat_tests, common_steps)
 
   -- and the last row
-  pub scrolled_all : (at : ℕ) (now : List C) (blank : C) → a.width ≤ a.pitch → at ≡ last_row a + 0 → blank ≡ l.blank → now ≡ by_address memory (moved_up l memory a (a.height - 1)) → by_address now (filled l now at a.width blank) ≡ by_address memory (scrolled l memory a)
+  pub scrolled_all : (at : ℕ) (now : List C) (blank : C) → a.width ≤ a.pitch → at ≡ last_row a → blank ≡ l.blank → now ≡ by_address memory (moved_up l memory a (a.height - 1)) → by_address now (filled l now at a.width blank) ≡ by_address memory (scrolled l memory a)
   scrolled_all at now blank apart place is-blank e =
-      ap₂ (λ (n : ℕ) (c : C). by_address now (filled l now n a.width c)) (place ∙ add-zero _) is-blank
+      ap₂ (λ (n : ℕ) (c : C). by_address now (filled l now n a.width c)) place is-blank
       ∙ ap (λ (m : List C). by_address m (filled l m (last_row a) a.width l.blank)) e
       ∙ by_address_twice memory (moved_up l memory a (a.height - 1)) _
       ∙ by_address_like memory _ (scrolled l memory a) (λ x h. last_at x apart h)

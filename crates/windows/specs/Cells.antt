@@ -1,7 +1,7 @@
 -- What scrolling a window and drawing its edge leave at each address of window memory.
 use Rattle.std.specs.Prelude.{ℕ, ◌+◌, ◌-◌, ◌*◌, Bool, cond, ◌||◌, List, slice_index_or}
 use Rattle.cells.specs.Kinds.{Layer, Glyph}
-use Rattle.areas.specs.Addresses.{in_span, in_rows}
+use Rattle.areas.specs.Addresses.{area, in_span, in_rows}
 use Rattle.areas.specs.declared.Area.{Area}
 use Rattle.cell_memory.specs.Texts.{cells_for}
 use Rattle.cell_memory.specs.Writing.{cell_at}
@@ -25,6 +25,10 @@ on_corner a x = either_end a.base a.width x || either_end (last_row a) a.width x
 
 abbrev pub on_end_row : Area → ℕ → Bool
 on_end_row a x = in_span a.base a.width x || in_span (last_row a) a.width x
+
+-- the first and the last row, as an area of two rows
+abbrev pub end_rows : Area → Area
+end_rows a = area a.base ((a.height - 1) * a.pitch) 2 a.width
 
 -- of so many rows
 abbrev pub on_side_column : Area → ℕ → ℕ → Bool

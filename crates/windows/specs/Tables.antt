@@ -1,5 +1,7 @@
 -- The windows of a screen: their areas in the order of their numbers, the cells taken, and the length of the window memory.
 use Rattle.std.specs.Prelude.{ℕ, ◌+◌, ◌*◌, Bool, List, [], ◌∷◌, ◌++◌, length, take, nat_lt, slice_index_or}
+use Rattle.places.specs.declared.Size.{Size}
+use Rattle.places.specs.declared.Rectangle.{Rectangle}
 use Rattle.areas.specs.Addresses.{area, part_of}
 use Rattle.areas.specs.declared.Area.{Area}
 use Rattle.windows.specs.declared.records.Windows.{Windows}
@@ -24,16 +26,16 @@ abbrev pub area_of : Table → ℕ → Area
 area_of t window = slice_index_or t.windows window (area 0 0 0 0)
 
 -- one window more: of cells after those taken, or of a part of a window
-abbrev pub with_window : Table → ℕ → ℕ → Table
-with_window t height width = record {
-  windows = t.windows ++ area t.taken width height width ∷ [];
-  taken = t.taken + height * width;
+abbrev pub with_window : Table → Size → Table
+with_window t z = record {
+  windows = t.windows ++ area t.taken z.columns z.rows z.columns ∷ [];
+  taken = t.taken + z.rows * z.columns;
   memory = t.memory;
 }
 
-abbrev pub with_part : Table → ℕ → ℕ → ℕ → ℕ → ℕ → Table
-with_part t window row column height width = record {
-  windows = t.windows ++ part_of (area_of t window) row column height width ∷ [];
+abbrev pub with_part : Table → ℕ → Rectangle → Table
+with_part t window p = record {
+  windows = t.windows ++ part_of (area_of t window) p.top p.left p.height p.width ∷ [];
   taken = t.taken;
   memory = t.memory;
 }

@@ -1,102 +1,68 @@
 // Scrolling an area, and drawing its edge.
-ghost use Rattle.std.specs.Prelude.{◌≡◌, ◌+◌, ◌<◌, ◌≤◌, true, length};
-ghost use Rattle.areas.specs.Addresses.{address, ends_below};
+ghost use Rattle.std.specs.Prelude.{◌≡◌, ◌≤◌};
+ghost use Rattle.areas.specs.Addresses.{in_area};
 ghost use Rattle.areas.specs.Memories.{by_address};
-ghost use Rattle.windows.specs.Cells.{scrolled, cell_of, drawn, on_side_column, on_end_row, either_end, on_corner, edged};
+ghost use Rattle.windows.specs.Cells.{scrolled, cell_of, drawn, on_side_column, edged};
 
+use crate::window_areas::WindowArea;
 use areas::Area;
 use cell_memory::{fill, shift};
 use cells::kinds::{LayerCell, Made, TerminalCell};
 
-// The address of a row and a column of an area.
-pub(crate) fn address_in(whole: Area, row: usize, column: usize) -> usize
-    requires inside { ends_below 65535 whole ≡ true }
-    requires row { row < whole.height }
-    requires column { column < whole.width }
-    ensures { result ≡ address whole row column }
-{
-    whole.base + row * whole.pitch + column
-}
-
 // Moves the rows of an area up by one and blanks the last.
-pub(crate) fn scroll_area<C: LayerCell>(memory: &mut [C], area: Area)
-    requires inside { ends_below (length memory.old) area ≡ true }
-    requires short { length memory.old ≤ 65535 }
-    ensures { memory.new ≡ by_address memory.old (scrolled C.LayerCell.layer memory.old area) }
+pub(crate) fn scroll_area<C: LayerCell>(memory: &mut [C], whole: WindowArea)
+    ensures { memory.new ≡ by_address memory.old (scrolled C.LayerCell.layer memory.old whole.area) }
 {
-    let last = area.height - 1;
+    let Area {
+        pitch,
+        height,
+        width,
+        ..
+    } = whole.area;
+    let last = height - 1;
+    // a row is where its number puts it in memory
     for row in 0..last {
-        let start = address_in(area, row, 0);
-        shift(memory, start, area.pitch, area.width);
+        shift(memory, whole.row(row), pitch, width);
     }
-    fill(memory, address_in(area, last, 0), area.width, C::blank());
+    fill(memory, whole.row(last), width, C::blank());
 }
 
 // The cell that a character of one column makes.
-fn cell_of<C: TerminalCell>(character: u32, attributes: u8) -> C
+fn cell_of<C: TerminalCell>(character: u8, attributes: u8) -> C
     ensures { result ≡ cell_of C.LayerCell.layer C.TerminalCell.glyph attributes character }
 {
-    match C::make(character, attributes) {
+    match C::make(u32::from(character), attributes) {
         Made::Single(cell) => cell,
-        Made::Pair(left, _) => left,
-        Made::Singles(left, _) => left,
+        Made::Pair(left, _) | Made::Singles(left, _) => left,
         Made::Nothing => C::blank(),
     }
 }
 
-// Writes a cell into the first and the last column of each row of an area.
-fn draw_sides<C: LayerCell>(memory: &mut [C], area: Area, cell: C)
-    requires inside { ends_below (length memory.old) area ≡ true }
-    requires short { length memory.old ≤ 65535 }
-    ensures { memory.new ≡ by_address memory.old (drawn C.LayerCell.layer memory.old (on_side_column area area.height) cell) }
+// Writes a cell into each spot of an area.
+fn draw_area<C: LayerCell>(memory: &mut [C], whole: WindowArea, cell: C)
+    ensures { memory.new ≡ by_address memory.old (drawn C.LayerCell.layer memory.old (in_area whole.area) cell) }
 {
-    for row in 0..area.height {
-        let left = address_in(area, row, 0);
-        fill(memory, left, 1, cell);
-        let right = address_in(area, row, area.width - 1);
-        fill(memory, right, 1, cell);
+    // a row is where its number puts it in memory
+    for row in 0..whole.area.height {
+        fill(memory, whole.row(row), whole.area.width, cell);
     }
 }
 
-// Writes a cell into the first and the last row of an area.
-fn draw_ends<C: LayerCell>(memory: &mut [C], area: Area, cell: C)
-    requires inside { ends_below (length memory.old) area ≡ true }
-    requires short { length memory.old ≤ 65535 }
-    ensures { memory.new ≡ by_address memory.old (drawn C.LayerCell.layer memory.old (on_end_row area) cell) }
+// Writes a cell into the first and the last column of each row of an area.
+fn draw_sides<C: LayerCell>(memory: &mut [C], whole: WindowArea, cell: C)
+    ensures { memory.new ≡ by_address memory.old (drawn C.LayerCell.layer memory.old (on_side_column whole.area whole.area.height) cell) }
 {
-    fill(memory, area.base, area.width, cell);
-    let last = address_in(area, area.height - 1, 0);
-    fill(memory, last, area.width, cell);
-}
-
-// Writes a cell into the first and the last column from an address on.
-fn draw_pair<C: LayerCell>(memory: &mut [C], from: usize, width: usize, cell: C)
-    requires wide { 0 < width }
-    requires short { from + width ≤ 65535 }
-    ensures { memory.new ≡ by_address memory.old (drawn C.LayerCell.layer memory.old (either_end from width) cell) }
-{
-    fill(memory, from, 1, cell);
-    fill(memory, from + (width - 1), 1, cell);
-}
-
-// Writes a cell into the corners of an area.
-fn draw_corners<C: LayerCell>(memory: &mut [C], area: Area, cell: C)
-    requires inside { ends_below (length memory.old) area ≡ true }
-    requires short { length memory.old ≤ 65535 }
-    ensures { memory.new ≡ by_address memory.old (drawn C.LayerCell.layer memory.old (on_corner area) cell) }
-{
-    draw_pair(memory, area.base, area.width, cell);
-    let last = address_in(area, area.height - 1, 0);
-    draw_pair(memory, last, area.width, cell);
+    draw_area(memory, whole.column(0), cell);
+    draw_area(memory, whole.column(whole.area.width - 1), cell);
 }
 
 // Draws the edge of an area.
-pub(crate) fn draw_edge<C: TerminalCell>(memory: &mut [C], area: Area, attributes: u8)
-    requires inside { ends_below (length memory.old) area ≡ true }
-    requires short { length memory.old ≤ 65535 }
-    ensures { memory.new ≡ by_address memory.old (edged C.LayerCell.layer C.TerminalCell.glyph memory.old area attributes) }
+pub(crate) fn draw_edge<C: TerminalCell>(memory: &mut [C], whole: WindowArea, attributes: u8)
+    requires { 2 ≤ whole.area.height }
+    ensures { memory.new ≡ by_address memory.old (edged C.LayerCell.layer C.TerminalCell.glyph memory.old whole.area attributes) }
 {
-    draw_sides(memory, area, cell_of(0x7C, attributes));
-    draw_ends(memory, area, cell_of(0x2D, attributes));
-    draw_corners(memory, area, cell_of(0x2B, attributes));
+    let ends = whole.ends();
+    draw_sides(memory, whole, cell_of(b'|', attributes));
+    draw_area(memory, ends, cell_of(b'-', attributes));
+    draw_sides(memory, ends, cell_of(b'+', attributes));
 }

@@ -5,4 +5,5 @@ pub mod calls;
 mod drawing;
 pub mod records;
 mod texts;
+mod window_areas;
 pub mod writing;

@@ -4,16 +4,17 @@ ghost use Rattle.areas.specs.Addresses.{area, ends_below};
 
 use areas::Area;
 
+// The most cells that window memory has.
+pub use areas::MOST_CELLS;
+
 // The most windows that a screen has.
 pub const MOST_WINDOWS: usize = 16;
-
-// The most cells that window memory has.
-pub const MOST_CELLS: usize = 65535;
 
 // The areas of the windows, how many there are, how many cells of window memory are taken, and how many it has.
 #[derive(Clone, Copy)]
 pub struct Windows {
-    pub(crate) areas: [Area; 16],
+    // an array and how many of it are in use, since the record is plain memory that is copied, and the library has no heap
+    pub(crate) areas: [Area; MOST_WINDOWS],
     pub(crate) count: usize,
     pub(crate) taken: usize,
     pub(crate) memory: usize,

@@ -10,11 +10,10 @@ pub(crate) fn columns_of(text: &[u32]) -> Option<usize>
 {
     let mut columns = 0;
     for character in text {
-        let width = Width::of(*character).columns();
-        if width == 0 {
-            return None;
+        match Width::of(*character) {
+            Width::Zero => return None,
+            width => columns += usize::from(width.columns()),
         }
-        columns += usize::from(width);
     }
     Some(columns)
 }

@@ -9,31 +9,17 @@ ghost use Rattle.windows.specs.Cells.{scrolled, edged};
 ghost use Rattle.windows.specs.Refusals.{area_refusal, write_refusal, punch_refusal, edge_refusal};
 ghost use Rattle.windows.specs.Tables.{table_of, area_of};
 
-use crate::drawing::{address_in, draw_edge, scroll_area};
+use crate::drawing::{draw_edge, scroll_area};
 use crate::records::Windows;
 use crate::texts::columns_of;
 use areas::Area;
 use cell_memory::{fill, write_text};
 use cells::kinds::{LayerCell, TerminalCell};
 use faults::Fault;
+use places::Spot;
 
 // The most characters of a text.
 const LONGEST_TEXT: usize = 255;
-
-// A run of cells of one row, from an address on.
-fn run(pitch: usize, base: usize, width: usize) -> Area
-    ensures base { result.base ≡ base }
-    ensures pitch { result.pitch ≡ pitch }
-    ensures height { result.height ≡ 1 }
-    ensures width { result.width ≡ width }
-{
-    Area {
-        base,
-        pitch,
-        height: 1,
-        width,
-    }
-}
 
 impl Windows {
     // Moves a window's rows up by one and blanks the last.
@@ -42,9 +28,9 @@ impl Windows {
         ensures wrote { IfOk result (λ a. a ≡ area_of (table_of self.now) window) }
         ensures cells { MatchResult result (λ _. memory.new ≡ by_address memory.old (scrolled C.LayerCell.layer memory.old (area_of (table_of self.now) window))) (λ _. memory.new ≡ memory.old) }
     {
-        let area = self.area(memory.len(), window)?;
-        scroll_area(memory, area);
-        Ok(area)
+        let found = self.find_over(memory.len(), window)?;
+        scroll_area(memory, found);
+        Ok(found.area)
     }
 
     // Draws a window's edge with attributes.
@@ -58,11 +44,12 @@ impl Windows {
         ensures wrote { IfOk result (λ a. a ≡ area_of (table_of self.now) window) }
         ensures cells { MatchResult result (λ _. memory.new ≡ by_address memory.old (edged C.LayerCell.layer C.TerminalCell.glyph memory.old (area_of (table_of self.now) window) attributes)) (λ _. memory.new ≡ memory.old) }
     {
-        let area = self.area(memory.len(), window)?;
+        let found = self.find_over(memory.len(), window)?;
+        let area = found.area;
         if area.height < 2 || area.width < 2 {
             return Err(Fault::TooSmallForBox);
         }
-        draw_edge(memory, area, attributes);
+        draw_edge(memory, found, attributes);
         Ok(area)
     }
 
@@ -71,21 +58,20 @@ impl Windows {
         &self,
         memory: &mut [C],
         window: usize,
-        row: usize,
-        column: usize,
+        at: Spot,
         count: usize,
     ) -> Result<Area, Fault>
-        ensures refusal { fault_of result ≡ punch_refusal (table_of self.now) (length memory.old) window row column count }
-        ensures wrote { IfOk result (λ a. a ≡ row_part (area_of (table_of self.now) window) row column count) }
-        ensures cells { MatchResult result (λ _. memory.new ≡ by_address memory.old (filled C.LayerCell.layer memory.old (address (area_of (table_of self.now) window) row column) count C.LayerCell.layer.punched)) (λ _. memory.new ≡ memory.old) }
+        ensures refusal { fault_of result ≡ punch_refusal (table_of self.now) (length memory.old) window at count }
+        ensures wrote { IfOk result (λ a. a ≡ row_part (area_of (table_of self.now) window) at.row at.column count) }
+        ensures cells { MatchResult result (λ _. memory.new ≡ by_address memory.old (filled C.LayerCell.layer memory.old (address (area_of (table_of self.now) window) at.row at.column) count C.LayerCell.layer.punched)) (λ _. memory.new ≡ memory.old) }
     {
-        let area = self.area(memory.len(), window)?;
-        if row >= area.height || column >= area.width || count > area.width - column {
+        let found = self.find_over(memory.len(), window)?;
+        if count > found.rest(at)? {
             return Err(Fault::Outside);
         }
-        let base = address_in(area, row, column);
-        fill(memory, base, count, C::punched());
-        Ok(run(area.pitch, base, count))
+        let run = found.run(at, count);
+        fill(memory, run.base, count, C::punched());
+        Ok(run)
     }
 
     // Writes a text into a window's row, from a spot on.
@@ -93,27 +79,21 @@ impl Windows {
         &self,
         memory: &mut [C],
         window: usize,
-        row: usize,
-        column: usize,
+        at: Spot,
         text: &[u32],
         attributes: u8,
     ) -> Result<Area, Fault>
-        ensures refusal { fault_of result ≡ write_refusal (table_of self.now) (length memory.old) window row column text.now }
-        ensures wrote { IfOk result (λ a. a ≡ row_part (area_of (table_of self.now) window) row column (length (cells_of C.TerminalCell.glyph attributes text.now))) }
-        ensures cells { MatchResult result (λ _. memory.new ≡ by_address memory.old (written C.LayerCell.layer memory.old (address (area_of (table_of self.now) window) row column) (cells_of C.TerminalCell.glyph attributes text.now))) (λ _. memory.new ≡ memory.old) }
+        ensures refusal { fault_of result ≡ write_refusal (table_of self.now) (length memory.old) window at text.now }
+        ensures wrote { IfOk result (λ a. a ≡ row_part (area_of (table_of self.now) window) at.row at.column (length (cells_of C.TerminalCell.glyph attributes text.now))) }
+        ensures cells { MatchResult result (λ _. memory.new ≡ by_address memory.old (written C.LayerCell.layer memory.old (address (area_of (table_of self.now) window) at.row at.column) (cells_of C.TerminalCell.glyph attributes text.now))) (λ _. memory.new ≡ memory.old) }
     {
-        let area = self.area(memory.len(), window)?;
-        if row >= area.height || column >= area.width {
-            return Err(Fault::Outside);
-        }
-        let Some(columns) = columns_of(text) else {
-            return Err(Fault::NoWidth);
-        };
-        if text.len() > LONGEST_TEXT || columns > area.width - column {
+        let found = self.find_over(memory.len(), window)?;
+        let rest = found.rest(at)?;
+        let columns = columns_of(text).ok_or(Fault::NoWidth)?;
+        if text.len() > LONGEST_TEXT || columns > rest {
             return Err(Fault::TooLong);
         }
-        let base = address_in(area, row, column);
-        let width = write_text(memory, base, text, attributes);
-        Ok(run(area.pitch, base, width))
+        let width = write_text(memory, found.address(at), text, attributes);
+        Ok(found.run(at, width))
     }
 }

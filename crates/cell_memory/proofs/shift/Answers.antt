@@ -16,6 +16,3 @@ loop-address-preserved g c =
     ap (λ now. set now at c.cell_or_blank.result) c.loop-address.invariant
     ∙ set-by_address memory _ at c.cell_or_blank.result (omega arith)
     ∙ by_address_like memory _ _ (λ x h. grind (arith, nat_tests))
-
-pub returns : goal.returns
-returns g c = c.loop-address.invariant ∙ by_address_like c.args.memory.now _ _ (λ x h. grind (arith, nat_tests))

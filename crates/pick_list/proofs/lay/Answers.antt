@@ -1,16 +1,24 @@
-use Rattle.std.proofs.Common.{◌≡◌, ℕ, ◌+◌, List, ◌++◌, length, get_or, take, replicate, sym, ap, ◌∙◌, arith}
-use Rattle.std.proofs.lemmas.List.{take_all, length-append}
-use Rattle.std.proofs.lemmas.List.Sums.{count_by_more_yes, count_by_more_no}
-use Rattle.std.proofs.lemmas.Bool.{eq-eqb, ne_eqb}
-use Rattle.pick_list.specs.Laying.{cells_in, cells_for, cells_of, makes_nothing, nothing_of}
-use Rattle.pick_list.proofs.Overlay.{over, over_more, over_blank_row, joined_take_more, short}
+use Rattle.std.proofs.Common.{◌≡◌, ℕ, ◌+◌, List, ◌++◌, length, get_or, take, sym, refl, ap, ◌∙◌, arith, length-append}
+use Rattle.std.proofs.lemmas.List.{take_all}
+use Rattle.std.proofs.lemmas.Grind.{common_steps}
+use Rattle.std.proofs.lemmas.Bool.Decides.{nat_tests}
+use Rattle.areas.specs.Memories.{by_address}
+use Rattle.areas.proofs.MemoryLaws.{none_written}
+use Rattle.cell_memory.specs.Writing.{filled, written}
+use Rattle.cell_memory.proofs.Texting.{two_at_most, written_more}
+use Rattle.pick_list.specs.Laying.{cells_in, cells_for, cells_of, nothing_of}
+use Rattle.pick_list.proofs.Overlay.{laid_over}
 use Rattle.pick_list.proofs.lay.Goals as goal
 use Rattle.pick_list.proofs.lay.Goals.{then-count-eq0, else-count-eq0}
 
+pub loop-character-init : goal.loop-character-init
+loop-character-init g c = (none_written c.fill.new.memory 0 0 _ g.C.LayerCell.layer.blank refl, refl, omega arith, refl, omega arith)
+
 pub loop-character-preserved : goal.loop-character-preserved
 loop-character-preserved g c =
+    let l = g.C.LayerCell.layer in
     let t = g.C.TerminalCell.glyph in
-    let b = g.C.LayerCell.layer.blank in
+    let row = c.fill.new.memory in
     let text = c.args.text.now in
     let i = c.loop-character.character-index in
     let item = c.character-item.result in
@@ -18,39 +26,28 @@ loop-character-preserved g c =
     let h = c.loop-character-test.true in
     let new : List g.row.C.Denot = cells_in c.make.result in
     let cells : List g.row.C.Denot = cells_of t (take i text) in
-    let blanks : List g.row.C.Denot = replicate (length c.loop-character.row) b in
     let here : new ≡ cells_for t (get_or text i item) = ap cells_in (c.make.ensures ∙ ap (λ (x : ℕ). t.make x 0) (c.from.ensures ∙ c.character-item.is)) in
-    let more : cells_of t (take (i + 1) text) ≡ cells ++ new = joined_take_more (cells_for t) text i item h ∙ ap (λ (xs : List g.row.C.Denot). cells ++ xs) (sym here) in
-    let wide : length c.loop-character.row ≡ length c.put_made-count.new.row = omega arith in
+    let more : cells_of t (take (i + 1) text) ≡ cells ++ new = grind (arith, common_steps) in
     let counted = c.put_made-count.ensures.count in
-    let nothing : nothing_of t (take (i + 1) text) ≡ c.if-count-eq0.dropped =
-    elim c.if-count-eq0.branch [
-      | then-count-eq0 w ↦
-          omega (arith, w.dropped-is, count_by_more_yes (makes_nothing t) text i item h (eq-eqb _ 0 (ap length (sym here) ∙ sym counted ∙ w.if-count-eq0.true)))
-      | else-count-eq0 w ↦
-          omega (arith, w.dropped-is, count_by_more_no (makes_nothing t) text i item h (ne_eqb _ 0 (λ e. w.if-count-eq0.false (counted ∙ ap length here ∙ e))))
-    ] in (
-      over_more cells new blanks _ _ _ inv.0 inv.1 c.put_made-count.ensures.after ∙ ap (λ (xs : List g.row.C.Denot). over xs blanks) (sym more)
-          ∙ ap (λ (n : ℕ). over (cells_of t (take (i + 1) text)) (replicate n b)) wide,
+    let nothing : c.if-count-eq0.dropped ≡ nothing_of t (take (i + 1) text) = grind (arith, common_steps, nat_tests) in (
+      c.put_made-count.ensures.after ∙ ap (λ m. by_address m (written l m c.loop-character.made new)) inv.0
+          ∙ written_more l row 0 c.loop-character.made cells new (omega arith) (omega arith)
+          ∙ ap (λ xs. by_address row (written l row 0 xs)) (sym more),
       omega (arith, ap length more, length-append cells new),
-      omega (arith, short c.make.result),
-      sym nothing,
-      elim c.if-count-eq0.branch [ then-count-eq0 w ↦ omega (arith, w.dropped-is) | else-count-eq0 w ↦ omega (arith, w.dropped-is) ],
+      omega (arith, two_at_most c.make.result),
+      nothing,
+      grind arith,
     )
 
-pub returns : goal.returns
-returns g c =
-    let t = g.C.TerminalCell.glyph in
-    let b = g.C.LayerCell.layer.blank in
+pub returns-clause-after : goal.returns-clause-after
+returns-clause-after g c =
+    let l = g.C.LayerCell.layer in
+    let cells = cells_of g.C.TerminalCell.glyph in
+    let old = c.args.row.now in
     let text = c.args.text.now in
-    let all : take c.loop-character.character-index text ≡ text = take_all _ text c.loop-character-test.false in
-    let inv = c.loop-character.invariant in
-    let wide : length c.loop-character.row ≡ length c.args.row.now = omega arith in
-    let made : c.loop-character.made ≡ length (cells_of t text) = inv.1 ∙ ap (λ (cs : List ℕ). length (cells_of t cs)) all in
-    record {
-      after = inv.0 ∙ ap (λ (cs : List ℕ). over (cells_of t cs) (replicate (length c.loop-character.row) b)) all
-          ∙ ap (λ (n : ℕ). over (cells_of t text) (replicate n b)) wide ∙ over_blank_row (cells_of t text) (length c.args.row.now) b;
-      laid = omega arith;
-      cut = omega arith;
-      dropped = inv.3 ∙ ap (nothing_of t) all;
-    }
+    let blank : c.fill.new.memory ≡ by_address old (filled l old 0 (length old) l.blank) =
+    c.fill.ensures ∙ ap (λ (x : g.row.C.Denot). by_address old (filled l old 0 (length old) x)) c.blank.ensures in
+    c.loop-character.invariant.0
+    ∙ ap (λ (cs : List ℕ). by_address c.fill.new.memory (written l c.fill.new.memory 0 (cells cs))) (take_all _ text c.loop-character-test.false)
+    ∙ ap (λ (row : List g.row.C.Denot). by_address row (written l row 0 (cells text))) blank
+    ∙ laid_over l old (cells text)

@@ -1,12 +1,13 @@
--- The cells of the characters so far lie over blanks, and they are counted.
-use Rattle.std.proofs.Common.{◌≡◌, ◌*◌, ◌≤◌, length, take, replicate}
+-- The cells of the characters so far are written over blanks, and they are counted.
+use Rattle.std.proofs.Common.{◌≡◌, ◌*◌, ◌≤◌, length, take}
+use Rattle.areas.specs.Memories.{by_address}
+use Rattle.cell_memory.specs.Writing.{written}
 use Rattle.pick_list.specs.Laying.{cells_of, nothing_of}
-use Rattle.pick_list.proofs.Overlay.{over}
 use Rattle.pick_list.proofs.lay.Given as goal
 
 abbrev pub invariant-loop-character : goal.invariant-loop-character
 invariant-loop-character g l =
-    (l.row ≡ over (cells_of g.C.TerminalCell.glyph (take l.character-index l.text)) (replicate (length l.row) g.C.LayerCell.layer.blank))
+    (l.row ≡ by_address l.initial.row (written g.C.LayerCell.layer l.initial.row 0 (cells_of g.C.TerminalCell.glyph (take l.character-index l.text))))
     × (l.made ≡ length (cells_of g.C.TerminalCell.glyph (take l.character-index l.text)))
     × (l.made ≤ 2 * l.character-index)
     × (l.dropped ≡ nothing_of g.C.TerminalCell.glyph (take l.character-index l.text))

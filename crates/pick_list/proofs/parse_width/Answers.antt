@@ -1,5 +1,7 @@
-use Rattle.pick_list.proofs.Numeric.{numeral_utf8}
+use Rattle.std.proofs.Common.{sym, ◌∙◌}
+use Rattle.pick_list.proofs.Numeric.{in_error, width_utf8}
 use Rattle.pick_list.proofs.parse_width.Goals as goal
 
-pub returns-in_default : goal.returns-in_default
-returns-in_default c n h = c.in_default.ensures.cases.0 (numeral_utf8 c.args.line.now h.numeral.1)
+pub returns-in_err-ok : goal.returns-in_err-ok
+returns-in_err-ok c =
+    rw c.from_residual.ensures (λ n h. (in_error _ _ _ (sym c.ok.ensures.value ∙ c.in_err-ok.was) c.from_utf8.ensures.cases).1.0 (width_utf8 _ n h))

@@ -1,28 +1,12 @@
-use Rattle.std.proofs.Common.{List, string_bytes, ap, ◌∙◌}
-use lib.Utf8.{encodes}
-use Rattle.std.proofs.lemmas.List.{take_all}
-use Rattle.text_cells.specs.TextCells.{text}
-use Rattle.text_cells.specs.declared.Part.TheVariants.{Single}
-use Rattle.text_cells.specs.declared.TextCell.{TextCell}
-use Rattle.pick_list.specs.Showing.{shown_row}
-use Rattle.pick_list.proofs.Shown.{shown_one, shown_none}
+use Rattle.std.proofs.Common.{rules}
+use Rattle.std.proofs.lemmas.Iterator.{text_from_collect, YieldsList-from_slice}
+use Rattle.std.proofs.lemmas.Iterator.Consumers.{YieldsList-from_filter_map}
+use Rattle.pick_list.proofs.Shown.{first_of, shown_first, shown_one_by_one}
 use Rattle.pick_list.proofs.show_row.Goals as goal
-use Rattle.pick_list.proofs.show_row.Goals.{in-Some+in_ok-push, in_default}
-
-pub loop-cell-preserved : goal.loop-cell-preserved
-loop-cell-preserved c =
-    let row = c.args.row.now in
-    let i = c.loop-cell.cell-index in
-    let h = c.loop-cell-test.true in
-    let bytes = string_bytes c.loop-cell.line in
-    elim c.match-shown_character.branch [
-      | in-Some+in_ok-push w ↦
-          ap string_bytes w.line-is ∙ w.in_ok-push.ensures.bytes
-          ∙ shown_one row i (text 0 Single 0) bytes w.in-Some.character h w.in-Some.ensures c.loop-cell.invariant
-      | in_default w ↦
-          ap string_bytes w.line-is ∙ shown_none row i (text 0 Single 0) bytes h w.in_default.ensures c.loop-cell.invariant
-    ]
 
 pub returns : goal.returns
-returns c =
-    c.loop-cell.invariant ∙ ap (λ (cells : List TextCell). encodes (shown_row cells)) (take_all _ c.args.row.now c.loop-cell-test.false)
+returns g c =
+    rw (← shown_one_by_one g.C.TerminalCell.glyph g.C.Lettered.letter c.args.row.now)
+    (text_from_collect _ c.collect.ensures.ran
+    (YieldsList-from_filter_map _ (shown_first g.C.TerminalCell.glyph g.C.Lettered.letter) (YieldsList-from_slice c.args.row.now (cc)) c.filter_map.ensures.closure
+    (λ x r q k. (search rules, first_of _ _ (search rules)))))

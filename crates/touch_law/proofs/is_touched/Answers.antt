@@ -1,7 +1,5 @@
-use Rattle.std.proofs.Common.{◌≡◌, ℕ, ◌*◌, Bool, List, length, refl, ap, ◌∙◌, arith}
+use Rattle.std.proofs.Common.{◌≡◌, ℕ, ◌*◌, Bool, List, length, refl, arith}
 use Rattle.std.proofs.lemmas.List.{length-take-le}
-use Rattle.std.proofs.lemmas.Result.{err_from_is_err_and}
-use Rattle.ranges.specs.Ranges.{inside}
 use Rattle.cells.specs.Kinds.{Layer, Glyph}
 use Rattle.areas.specs.Addresses.{in_span, in_area, row_part, address}
 use Rattle.areas.specs.Memories.{by_address}
@@ -19,7 +17,7 @@ use Rattle.touch_law.proofs.is_touched.Goals as goal
 
 module _ {C : Type 0} (l : Layer C) (g : Glyph C) (screen : Screen) (memory : List C) where
   long : length (state_of screen).ranges ≡ (state_of screen).rows
-  long = let t = screen.board.touched in length-take-le t.rows t.ranges (omega (arith, t.tall, t.long))
+  long = let t = screen.board.touched in length-take-le t.size.rows t.ranges (omega (arith, t.tall, t.long))
 
   panels_touch : PanelCallsTouch l g (state_of screen) memory
   panels_touch = record {
@@ -28,7 +26,7 @@ module _ {C : Type 0} (l : Layer C) (g : Glyph C) (screen : Screen) (memory : Li
     raise = only_raised l g (state_of screen) memory long;
     lower = only_lowered l g (state_of screen) memory long;
     relocate = only_relocated l g (state_of screen) memory long;
-    panel = λ number window view_row view_column height width row column hidden. only_given l g (state_of screen) memory long number _ hidden;
+    panel = λ number window view at hidden. only_given l g (state_of screen) memory long number _ hidden;
   }
 
   -- cells were written at addresses, and the spots that show them are touched
@@ -41,29 +39,22 @@ module _ {C : Type 0} (l : Layer C) (g : Glyph C) (screen : Screen) (memory : Li
       let table = (state_of screen).table in
       let w = screen.board.windows in
       record {
-        window = λ height width. only_same l g (state_of screen) memory long (with_table (state_of screen) (with_window table height width)) (by_address memory (filled l memory table.taken (height * width) l.blank)) refl
-            (λ r x. raw_kept l memory (by_address memory (filled l memory table.taken (height * width) l.blank)) (in_span table.taken (height * width)) (span_kept l memory table.taken (height * width) l.blank) (state_of screen).deck r x (λ n _. past_unshown table.taken (height * width) (panel_of (state_of screen).deck n) r x (screen.seen n)));
-        write = λ window row column cells. writes (in_area (row_part (area_of table window) row column (length cells))) (by_address memory (written l memory (address (area_of table window) row column) cells)) (written_kept l memory (area_of table window) row column cells);
-        punch = λ window row column count. writes (in_area (row_part (area_of table window) row column count)) (by_address memory (filled l memory (address (area_of table window) row column) count l.punched)) (filled_kept l memory (area_of table window) row column count l.punched);
+        window = λ z. only_same l g (state_of screen) memory long (with_table (state_of screen) (with_window table z)) (by_address memory (filled l memory table.taken (z.rows * z.columns) l.blank)) refl
+            (λ r x. raw_kept l memory (by_address memory (filled l memory table.taken (z.rows * z.columns) l.blank)) (in_span table.taken (z.rows * z.columns)) (span_kept l memory table.taken (z.rows * z.columns) l.blank) (state_of screen).deck r x (λ n _. past_unshown table.taken (z.rows * z.columns) (panel_of (state_of screen).deck n) r x (screen.seen n)));
+        write = λ window at cells. writes (in_area (row_part (area_of table window) at.row at.column (length cells))) (by_address memory (written l memory (address (area_of table window) at.row at.column) cells)) (written_kept l memory (area_of table window) at.row at.column cells);
+        punch = λ window at count. writes (in_area (row_part (area_of table window) at.row at.column count)) (by_address memory (filled l memory (address (area_of table window) at.row at.column) count l.punched)) (filled_kept l memory (area_of table window) at.row at.column count l.punched);
         scroll = λ window t. writes (in_area (area_of table window)) (by_address memory (scrolled l memory (area_of table window))) (scrolled_kept l memory (area_of table window) (window_ends w window t).tall);
         box = λ window attributes t. writes (on_edge (area_of table window)) (by_address memory (edged l g memory (area_of table window) attributes)) (edged_kept l memory g (area_of table window) attributes (window_ends w window t).wide);
       }
 
-pub returns-in_err-range : goal.returns-in_err-range
-returns-in_err-range g c =
-    let p = err_from_is_err_and c.from_residual.result c.from_residual.ensures.1 in
-    rw (p.1, p.2)
-    (record {
-      refusal = c.in_err-range.ensures.refusal;
-      told = tt;
-      panel_calls = panels_touch g.C.LayerCell.layer g.C.TerminalCell.glyph c.args.screen.now c.args._memory.now;
-      window_calls = windows_touch g.C.LayerCell.layer g.C.TerminalCell.glyph c.args.screen.now c.args._memory.now;
-    })
+pub returns-clause-panel_calls : goal.returns-clause-panel_calls
+returns-clause-panel_calls g c = panels_touch g.C.LayerCell.layer g.C.TerminalCell.glyph c.args.screen.now c.args._memory.now
 
-pub returns : goal.returns
-returns g c = record {
-  refusal = c.in_ok-range.ensures.refusal;
-  told = c.is_inside.ensures ∙ ap (λ r. inside r c.args.column) c.in_ok-range.ensures.told;
-  panel_calls = panels_touch g.C.LayerCell.layer g.C.TerminalCell.glyph c.args.screen.now c.args._memory.now;
-  window_calls = windows_touch g.C.LayerCell.layer g.C.TerminalCell.glyph c.args.screen.now c.args._memory.now;
-}
+pub returns-clause-window_calls : goal.returns-clause-window_calls
+returns-clause-window_calls g c = windows_touch g.C.LayerCell.layer g.C.TerminalCell.glyph c.args.screen.now c.args._memory.now
+
+pub returns-in_err-range-clause-panel_calls : goal.returns-in_err-range-clause-panel_calls
+returns-in_err-range-clause-panel_calls g c = panels_touch g.C.LayerCell.layer g.C.TerminalCell.glyph c.args.screen.now c.args._memory.now
+
+pub returns-in_err-range-clause-window_calls : goal.returns-in_err-range-clause-window_calls
+returns-in_err-range-clause-window_calls g c = windows_touch g.C.LayerCell.layer g.C.TerminalCell.glyph c.args.screen.now c.args._memory.now

@@ -5,4 +5,4 @@ use Rattle.windows.proofs.Scrolling.{moved_up}
 use Rattle.windows.proofs.drawing.scroll_area.Given as goal
 
 abbrev pub invariant-loop-row : goal.invariant-loop-row
-invariant-loop-row g l = l.memory ≡ by_address l.initial.memory (moved_up g.C.LayerCell.layer l.initial.memory l.area l.row)
+invariant-loop-row g l = l.memory ≡ by_address l.initial.memory (moved_up g.C.LayerCell.layer l.initial.memory l.whole.area l.row)

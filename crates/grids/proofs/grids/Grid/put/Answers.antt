@@ -4,12 +4,8 @@ use Rattle.grids.specs.declared.grids.Grid.{Grid}
 use Rattle.grids.proofs.PutsLawful.{lawfully}
 use Rattle.grids.proofs.grids.Grid.put.Goals as goal
 
-pub returns : goal.returns
-returns g c =
+pub returns-clause-laws : goal.returns-clause-laws
+returns-clause-laws g c =
     let old = c.args.self.now in
-    let new : Grid g.row.C.Denot = record { cells = set_vals c.put_inside.new.cells old.cells; rows = old.rows; columns = old.columns } in
-    record {
-      refusal = search rules;
-      effect = search rules;
-      laws = lawfully _ _ g.met.C.TerminalCell.lawful (c.args.cell ∷ []) old new _ _ c.put_inside.result (search rules) (search rules);
-    }
+    let new : Grid g.row.C.Denot = record { cells = set_vals c.put_cells.new.cells old.cells; size = old.size } in
+    lawfully _ _ g.met.C.TerminalCell.lawful (c.args.cell ∷ []) old new _ _ c.put_cells.result (search rules) (search rules)

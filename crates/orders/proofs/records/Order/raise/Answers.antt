@@ -1,25 +1,15 @@
-use Rattle.std.proofs.Common.{◌≡◌, ◌≤◌, true, [], ◌∷◌, ◌++◌, length, take, sym, ◌∙◌, arith}
-use Rattle.std.proofs.lemmas.Bool.{cond-true}
-use Rattle.orders.specs.Orders.{has, without}
-use Rattle.orders.proofs.OrderLaws.{shown_at, once_raised, moved_to_end}
+use Rattle.std.proofs.Common.{sym, refl, ◌∙◌}
+use Rattle.orders.specs.Kept.{order_of}
+use Rattle.orders.proofs.OrderLaws.{nowhere, turned_to_end, once_raised}
 use Rattle.orders.proofs.records.Order.raise.Goals as goal
 
-pub invariant_of-self : goal.invariant_of-self
-invariant_of-self c =
+pub invariant_of-self-clause-once : goal.invariant_of-self-clause-once
+invariant_of-self-clause-once c =
     let o = c.args.self.now in
-    let n = c.args.number in
-    let found = c.in-Some.ensures in
-    let long : o.shown ≤ length o.numbers = omega (arith, o.sixteen, o.few) in
-    let order = take o.shown o.numbers in
-    let there : has n order ≡ true = shown_at o.numbers o.shown c.in-Some.place n long found.0 found.1 in
-    let is : take o.shown c.move_to_end.new.numbers ≡ without n order ++ n ∷ [] = moved_to_end o.numbers o.shown c.in-Some.place n long found.0 found.1 o.once c.move_to_end.new.numbers c.move_to_end.ensures in
-    record { sixteen = omega (arith, o.sixteen); few = omega (arith, o.few); once = (λ m. rw is (once_raised 16 n order o.once there m)) }
+    λ m. rw (turned_to_end c.args.number c.in-Some.place o c.rotate_left.new.self (sym c.place.ensures ∙ c.in-Some.is) c.rotate_left.ensures.after) (once_raised 16 c.args.number (order_of o) o.once m)
 
 pub returns-in-Some : goal.returns-in-Some
-returns-in-Some c =
-    let o = c.args.self.now in
-    let n = c.args.number in
-    let found = c.in-Some.ensures in
-    let long : o.shown ≤ length o.numbers = omega (arith, o.sixteen, o.few) in
-    let there = shown_at o.numbers o.shown c.in-Some.place n long found.0 found.1 in
-    moved_to_end o.numbers o.shown c.in-Some.place n long found.0 found.1 o.once c.move_to_end.new.numbers c.move_to_end.ensures ∙ sym (cond-true _ _ (take o.shown o.numbers) there)
+returns-in-Some c = turned_to_end c.args.number c.in-Some.place c.args.self.now c.rotate_left.new.self (sym c.place.ensures ∙ c.in-Some.is) c.rotate_left.ensures.after
+
+pub returns-in_default : goal.returns-in_default
+returns-in_default c = rw (nowhere c.args.number (order_of c.args.self.now) (sym c.place.ensures ∙ c.in_default.is)) refl

@@ -18,6 +18,6 @@ loop-row-preserved c =
     let row = c.loop-row.row in
     touching_like c.args.touched.now c.touch_span.new.touched _ _
     (λ r x h b. sym (hit_or d (in_rows a.base a.pitch row a.width) (in_span c.saturating_add-start.result a.width) r x)
-    ∙ hit_small d _ (in_rows a.base a.pitch (row + 1) a.width) r x c.args.self.now.small
+    ∙ hit_small c.args.self.now _ (in_rows a.base a.pitch (row + 1) a.width) r x
     (λ y k. ap (λ (t : Bool). in_rows a.base a.pitch row a.width y || t) (span_saturated a.base row a.pitch a.width c.saturating_mul.result c.saturating_add-start.result y k c.saturating_mul.ensures c.saturating_add-start.ensures) ∙ sym (rows_push a.base a.pitch row a.width y)))
     (touching_then c.args.touched.now c.loop-row.touched c.touch_span.new.touched _ _ c.loop-row.invariant c.touch_span.ensures)

@@ -1,33 +1,28 @@
-use Rattle.std.proofs.Common.{get_or, sym, refl, ap, arith}
-use Rattle.std.proofs.lemmas.List.{take_all}
-use Rattle.std.proofs.lemmas.Option.{slice_get-get_or}
+use Rattle.std.proofs.Common.{◌<◌, ◌||◌, length, take, get_or, refl, sym, ap, ◌∙◌}
+use Rattle.std.proofs.lemmas.List.Folds.{list_any_more}
 use Rattle.areas.specs.Addresses.{in_span}
-use Rattle.orders.specs.Kept.{order_of}
+use Rattle.touching.specs.TouchedRows.{Touching}
 use Rattle.touching.proofs.TouchingLaws.{touching_none, touching_then, touching_like}
 use Rattle.panels.specs.Places.{shows}
-use Rattle.panels.specs.Decks.{deck_of, panel_of, any}
-use Rattle.panels.proofs.Tops.{any_more}
+use Rattle.panels.specs.Decks.{deck_of, panel_in, panel_of, any}
 use Rattle.panels.proofs.records.Panels.touch_span.Goals as goal
+use Rattle.panels.proofs.records.Panels.touch_span.Goals.{in-Some, in_default}
 
-pub loop-place-init : goal.loop-place-init
-loop-place-init c = touching_none c.args.touched.now _ (λ r x h. refl)
+pub loop-number-init : goal.loop-number-init
+loop-number-init c = touching_none c.args.touched.now _ (λ r x h. refl)
 
-pub touch_place-requires : goal.touch_place-requires
-touch_place-requires c = omega (arith, c.count-place-end.ensures)
-
-pub loop-place-preserved : goal.loop-place-preserved
-loop-place-preserved c =
-    let order = order_of c.args.self.now.order in
+pub loop-number-preserved : goal.loop-number-preserved
+loop-number-preserved c =
     let d = deck_of c.args.self.now in
-    let place = c.loop-place.place in
-    touching_like c.args.touched.now c.touch_place.new.touched _ _
-    (λ r x h b. sym (any_more (λ n. shows (in_span c.args.from c.args.count) (panel_of d n) r x) order place (get_or order place 0) (slice_get-get_or order place 0 (omega (arith, c.count-place-end.ensures)))))
-    (touching_then c.args.touched.now c.loop-place.touched c.touch_place.new.touched _ _ c.loop-place.invariant c.touch_place.ensures)
-
-pub returns : goal.returns
-returns c =
-    let order = order_of c.args.self.now.order in
-    let d = deck_of c.args.self.now in
-    touching_like c.args.touched.now c.loop-place.touched _ _
-    (λ r x h b. ap (any (λ n. shows (in_span c.args.from c.args.count) (panel_of d n) r x)) (take_all c.loop-place.place order (omega (arith, c.count-place-end.ensures))))
-    c.loop-place.invariant
+    let place = c.loop-number.number-index in
+    let number = get_or c.numbers-number-items.result.now place 0 in
+    let within : place < length d.order = rw (sym c.numbers-number-items.ensures) c.loop-number-test.true in
+    let one : Touching c.loop-number.touched c.match-small.touched (shows (in_span c.args.from c.args.count) (panel_of d number)) =
+    elim c.match-small.branch [
+      | in-Some w ↦ rw (w.touched-is, sym c.small.ensures ∙ ap panel_in w.in-Some.is) w.touch.ensures
+      | in_default w ↦ rw w.touched-is (touching_none c.loop-number.touched _ (λ r x h. ap (λ p. shows (in_span c.args.from c.args.count) p r x) (sym c.small.ensures ∙ ap panel_in w.in_default.is)))
+    ] in
+    touching_like c.args.touched.now c.match-small.touched _ _
+    (λ r x h b. ap (λ n. any (λ m. shows (in_span c.args.from c.args.count) (panel_of d m) r x) (take place d.order) || shows (in_span c.args.from c.args.count) (panel_of d n) r x) (ap (λ xs. get_or xs place 0) c.numbers-number-items.ensures)
+    ∙ sym (list_any_more (λ m. shows (in_span c.args.from c.args.count) (panel_of d m) r x) d.order place 0 within))
+    (touching_then c.args.touched.now c.loop-number.touched c.match-small.touched _ _ c.loop-number.invariant one)

@@ -7,5 +7,5 @@ use Rattle.panels.specs.Places.{shows}
 use Rattle.panels.specs.Decks.{deck_of, panel_of, any}
 use Rattle.panels.proofs.records.Panels.touch_span.Given as goal
 
-abbrev pub invariant-loop-place : goal.invariant-loop-place
-invariant-loop-place l = Touching l.initial.touched l.touched (λ r c. any (λ n. shows (in_span l.from l.count) (panel_of (deck_of l.self) n) r c) (take l.place (order_of l.self.order)))
+abbrev pub invariant-loop-number : goal.invariant-loop-number
+invariant-loop-number l = Touching l.initial.touched l.touched (λ r c. any (λ n. shows (in_span l.from l.count) (panel_of (deck_of l.self) n) r c) (take l.number-index (order_of l.self.order)))

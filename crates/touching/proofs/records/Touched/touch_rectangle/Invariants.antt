@@ -4,4 +4,4 @@ use Rattle.touching.specs.TouchedRows.{in_rectangle, Touching}
 use Rattle.touching.proofs.records.Touched.touch_rectangle.Given as goal
 
 abbrev pub invariant-loop-row : goal.invariant-loop-row
-invariant-loop-row l = Touching l.initial.self l.self (in_rectangle l.top l.left (l.row - l.top) l.width)
+invariant-loop-row l = Touching l.initial.self l.self (in_rectangle l.area.top l.area.left (l.row - l.area.top) l.area.width)

@@ -1,0 +1,3 @@
+-- What the contracts of devices cite.
+pub mod Shown
+pub mod Devices

@@ -1,0 +1,2 @@
+-- What contracts over spots, sizes and rectangles cite.
+pub mod Places
