@@ -37,7 +37,7 @@ pub struct DumbFace<'a> {
 // A dumb terminal over a grid and a line of the caller's. If its size is refused, it has no rows and no columns.
 pub type Dumb<'a> = Device<'a, DumbFace<'a>>;
 
-// The code that moves the cursor to a spot: ESC, "=", and the row and the column, each from 32 on.
+// The code that moves the cursor to a spot: ESC (its own, not that of ECMA-48), "=", and the row and the column, each from 32 on.
 fn move_code(to: Spot) -> [u8; 4]
     requires row { to.row < 24 }
     requires column { to.column < 80 }
@@ -91,6 +91,7 @@ impl<'a> Face<'a> for DumbFace<'a> {
         }
     }
 
+    // Each face, as a pane too, has a test of its own for whether its size counts.
     fn size(&self) -> Size {
         if self.is_usable() {
             self.grid.size

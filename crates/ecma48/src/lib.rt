@@ -115,6 +115,7 @@ impl<'a> Face<'a> for EcmaFace<'a> {
         }
     }
 
+    // Each face, as a pane too, has a test of its own for whether its size counts.
     fn size(&self) -> Size {
         if self.is_usable() {
             self.emulator.size() // rows and columns

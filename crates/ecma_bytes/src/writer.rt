@@ -7,9 +7,8 @@ ghost use Rattle.ecma_bytes.specs.Codes.{code_bytes};
 
 use crate::codes::{Code, LONGEST};
 use cells::attributes::{BLINKING, BOLD, REVERSE, UNDERLINED};
+use reader::steps::ESC;
 use terminal::spots::Spot;
-
-const ESC: u8 = 0x1B;
 
 // The digit for each attribute.
 const ATTRIBUTE_DIGITS: [(u8, u8); 4] = [

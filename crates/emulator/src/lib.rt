@@ -10,12 +10,9 @@ use cells::kinds::{Made, TerminalCell};
 use grids::grids::Grid;
 use places::{Size, Spot};
 use reader::states::{Action, State};
-use reader::steps::{begin_character, begin_sequence, continue_character, continue_sequence};
+use reader::steps::{ESC, begin_character, begin_sequence, continue_character, continue_sequence};
 use terminal::spots::{moved_on, on_grid};
 use text_cells::TextCell;
-
-// The byte that begins a sequence.
-const ESC: u8 = 0x1B;
 
 // A reader of bytes on a grid of the caller's.
 #[derive(Drop)]

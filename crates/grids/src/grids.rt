@@ -13,7 +13,7 @@ use faults::Fault;
 use places::{Size, Spot};
 use std::ops::Range;
 
-// A size over a slice. If the slice has another length than rows × columns, the grid has no rows and no columns.
+// A size over a slice, which is the caller's memory. If the slice has another length than rows × columns, the grid has no rows and no columns.
 #[derive(Drop)]
 pub struct Grid<'a, C> {
     pub cells: &'a mut [C],

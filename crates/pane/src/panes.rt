@@ -20,6 +20,7 @@ fn is_fit<T: Terminal>(below: &T, area: Rectangle) -> bool
     ensures sound { Sound (T.Terminal.meaning below.now) }
     ensures small { result ≡ true → (area.top + area.height < 2 ^ 64) × (area.left + area.width < 2 ^ 64) }
 {
+    // a terminal tells its size by two questions
     let size = Size {
         rows: below.rows(),
         columns: below.columns(),
@@ -62,6 +63,7 @@ impl<'a, T: Terminal> Pane<'a, T> {
         ensures small { 0 < result.rows → (self.now.area.top + result.rows < 2 ^ 64) × (self.now.area.left + result.columns < 2 ^ 64) }
     {
         if is_fit(self.below, self.area) {
+            // a rectangle names its sides otherwise than a size
             Size {
                 rows: self.area.height,
                 columns: self.area.width,

@@ -15,6 +15,7 @@ impl Panels {
         ensures each { (n : ℕ) → times n (take result list.new) ≡ (if is_shown (deck_of self.now) n && covers (panel_of (deck_of self.now) n) at.row at.column then 1 else 0) }
         ensures rest { drop result list.new ≡ drop result list.old }
     {
+        // the list is the caller's memory, so how much of it is filled is counted
         let mut count = 0;
         for number in self.order.numbers() {
             if self.covers(*number, at) {

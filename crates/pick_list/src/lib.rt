@@ -49,6 +49,7 @@ pub fn lay<C: TerminalCell>(text: &[char], row: &mut [C]) -> Laid
     let mut dropped = 0;
     for character in text {
         let count = put_made(row, made, C::make(u32::from(*character), 0));
+        // a count is all that is answered of what was made; to match on it again would test the same twice
         if count == 0 {
             dropped += 1;
         }
@@ -146,6 +147,7 @@ pub fn row_cells<C: TerminalCell>(
     ensures same { grid.new ≡ grid.old }
 {
     let mut cells = Vec::new(heap);
+    // by columns, since a grid hands out its cells one by one
     while let Some(cell) = grid.cell(Spot {
         row,
         column: cells.len(),

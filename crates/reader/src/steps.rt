@@ -127,7 +127,10 @@ pub fn continue_sequence(sequence: Sequence, byte: u8) -> Step
     }
 }
 
-// The byte ESC begins a sequence.
+// The byte that begins a sequence.
+pub const ESC: u8 = 0x1B;
+
+// ESC begins a sequence.
 pub fn begin_sequence() -> Step
     ensures { result ≡ begin_sequence }
 {

@@ -282,7 +282,7 @@ fn accepted(answer: Result<(), Fault>, why: &str) -> anyhow::Result<()> {
     answer.map_err(|fault| anyhow!("{fault}: {why}"))
 }
 
-// Does what the command line asks for.
+// Does what the command line asks for: the list alone has no terminal, the others differ in what is written.
 fn run_command(rt: &HostRuntime, command: Command) -> anyhow::Result<()> {
     let replay = |output| Replay { rt, output };
     match command {

@@ -61,6 +61,7 @@ fn draw_edge<C: TerminalCell>(
 }
 
 // Touches what shows the edge of an area.
+// That its area ends in window memory is asked, since the type that knows it is private to windows.
 fn touch_edge(panels: &Panels, touched: &mut Touched, area: Area)
     requires { ends_below 65535 area ≡ true }
     ensures { Touching touched.old touched.new (hit (deck_of panels.now) (on_edge area)) }

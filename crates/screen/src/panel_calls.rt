@@ -19,7 +19,7 @@ use panels::records::Panels;
 use places::{Rectangle, Spot};
 use touching::records::Touched;
 
-// The rectangle of the screen where a panel lies.
+// The rectangle of the screen where a panel lies: of a spot's numbers and of an area's, which have no type in common with it.
 fn rectangle_of(panel: Panel) -> Rectangle
     ensures { result ≡ rectangle panel.at panel.view.height panel.view.width }
 {

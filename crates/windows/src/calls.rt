@@ -161,6 +161,7 @@ impl Windows {
         if !part.lies_in(whole.size()) {
             return Err(Fault::Outside);
         }
+        // where a part begins is asked for here alone
         let first = Spot {
             row: part.top,
             column: part.left,

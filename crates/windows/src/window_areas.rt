@@ -22,6 +22,7 @@ impl WindowArea {
     pub(crate) fn size(self) -> Size
         ensures { result ≡ size self.area.height self.area.width }
     {
+        // an area names its sides as a rectangle does, a size as a grid does
         Size {
             rows: self.area.height,
             columns: self.area.width,
@@ -33,6 +34,7 @@ impl WindowArea {
         requires { holds (size self.area.height self.area.width) at ≡ true }
         ensures { result ≡ address self.area at.row at.column }
     {
+        // as for a panel's view: that the sum fits, each type knows of its own area
         self.area.base + at.row * self.area.pitch + at.column
     }
 
