@@ -1,7 +1,7 @@
 // The refusals of the library: each call that refuses answers one of these, with its number and layer.
 #![tactic(auto)]
 
-ghost use Rattle.std.specs.Prelude.{◌≡◌, Some};
+ghost use Rattle.std.specs.Prelude.{◌≡◌, Some, ◌==◌};
 ghost use Rattle.faults.specs.Faults.{number_of, layer_of};
 ghost use Rattle.faults.specs.Words.{layer_word, refusal_text};
 
@@ -64,6 +64,13 @@ impl Fault {
         ensures { result ≡ number_of self }
     {
         self as u8
+    }
+
+    // Is it the same refusal? That is what `==` answers too: two refusals are equal if their numbers are.
+    pub fn same(self, other: Fault) -> bool
+        ensures { result ≡ (number_of self == number_of other) }
+    {
+        self == other
     }
 
     // Whether the screen or the terminal below it refuses.
