@@ -19,7 +19,7 @@ use Rattle.orders.proofs.Rotations.{rotated_to_end, rotated_to_front}
 abbrev pub Once : ℕ → List ℕ → Type 0
 Once bound order = (n : ℕ) → times n order ≤ cond (ltb n bound) 1 0
 
-times_append : (n : ℕ) (xs ys : List ℕ) → times n (xs ++ ys) ≡ times n xs + times n ys
+pub times_append : (n : ℕ) (xs ys : List ℕ) → times n (xs ++ ys) ≡ times n xs + times n ys
 times_append n [] ys = omega arith
 times_append n (x ∷ xs) ys = grind (arith, times_append n xs ys)
 
@@ -37,13 +37,13 @@ none_has n [] e = refl
 none_has n (x ∷ xs) e = grind (arith, nat_tests, common_steps, none_has n xs)
 
 -- taking a number out takes out its place, if it stands there only
-without_at : (n : ℕ) (xs : List ℕ) (i : ℕ) → i < length xs → get_or xs i 0 ≡ n → times n xs ≤ 1 → without n xs ≡ remove xs i
+pub without_at : (n : ℕ) (xs : List ℕ) (i : ℕ) → i < length xs → get_or xs i 0 ≡ n → times n xs ≤ 1 → without n xs ≡ remove xs i
 without_at n [] i h e once = absurd (omega arith)
 without_at n (x ∷ xs) zero h e once = grind (arith, nat_tests, common_steps, without_none n xs, none_has n xs)
 without_at n (x ∷ xs) (suc i) h e once = grind (arith, nat_tests, common_steps, without_at n xs i, none_has n xs)
 
 -- how often numbers stand in what is left
-times_without : (n m : ℕ) (xs : List ℕ) → times m (without n xs) ≡ cond (eqb m n) 0 (times m xs)
+pub times_without : (n m : ℕ) (xs : List ℕ) → times m (without n xs) ≡ cond (eqb m n) 0 (times m xs)
 times_without n m [] = grind (arith, nat_tests)
 times_without n m (x ∷ xs) = grind (arith, nat_tests, times_without n m xs)
 
@@ -52,7 +52,7 @@ length_without n [] = refl
 length_without n (x ∷ xs) = grind (arith, nat_tests, common_steps, length_without n xs)
 
 -- numbers below a bound, each once at most, are no more than the bound
-once_length : (bound : ℕ) (xs : List ℕ) → Once bound xs → length xs ≤ bound
+pub once_length : (bound : ℕ) (xs : List ℕ) → Once bound xs → length xs ≤ bound
 once_length zero [] once = omega arith
 once_length zero (x ∷ xs) once = let h = once x in grind (arith, nat_tests)
 once_length (suc bound) xs once =
@@ -61,7 +61,7 @@ once_length (suc bound) xs once =
     grind (arith, nat_tests, length_without bound xs, once_length bound (without bound xs) rest)
 
 -- so there is a place for one that is not there
-once_place : (bound n : ℕ) (xs : List ℕ) → Once bound xs → n < bound → has n xs ≡ false → Once bound (n ∷ xs)
+pub once_place : (bound n : ℕ) (xs : List ℕ) → Once bound xs → n < bound → has n xs ≡ false → Once bound (n ∷ xs)
 once_place bound n xs once h none m = let z = has_none n xs none in let o = once m in grind (arith, nat_tests)
 
 pub once_without : (bound n : ℕ) (xs : List ℕ) → Once bound xs → Once bound (without n xs)
@@ -118,7 +118,7 @@ module _ (n place : ℕ) (o : Order) (ys : List ℕ) (at : position (λ m. eqb m
   found : has n (order_of o) ≡ true
   found = list_any_at (λ m. eqb m n) (order_of o) place 0 place_is.0 place_is.1
 
-  taken_out : without n (order_of o) ≡ remove (order_of o) place
+  pub taken_out : without n (order_of o) ≡ remove (order_of o) place
   taken_out = without_at n (order_of o) place place_is.0 here (once_at_most 16 n (order_of o) o.once)
 
   -- moved to the end, and to the front

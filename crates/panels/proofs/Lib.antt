@@ -3,4 +3,5 @@ pub mod Tops
 pub mod SmallPanels
 pub mod Spans
 pub mod Hits
+pub mod Giving
 pub mod Listing

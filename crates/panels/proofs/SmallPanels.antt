@@ -12,6 +12,12 @@ module _ (p : Panel) (t : is_small (Some p) ≡ true) where
   pub small_view : ends_below 65535 p.view ≡ true
   small_view = grind (arith, nat_tests)
 
+  pub small_rows : p.at.row + p.view.height ≤ 64
+  small_rows = grind (arith, nat_tests)
+
+  pub small_columns : p.at.column + p.view.width ≤ 128
+  small_columns = grind (arith, nat_tests)
+
 -- so each row of its view ends in the first 65,535 cells
 pub view_row_end : (s : SmallPanel) (row : ℕ) → row < s.panel.view.height → s.panel.view.base + row * s.panel.view.pitch + s.panel.view.width ≤ 65535
 view_row_end s row h = let v = s.panel.view in row_end v.base v.pitch v.height v.width row 65535 h (ends_facts 65535 v (small_view s.panel s.small)).last

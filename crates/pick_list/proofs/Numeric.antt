@@ -13,7 +13,7 @@ after_ascii [] e h i = omega arith
 after_ascii (c ∷ cs) e h zero = omega arith
 after_ascii (c ∷ cs) e h (suc i) = IsAscii-from_digits cs h i
 
-numeral_utf8 : (bs : List ℕ) → AllDigits 10 (without_leading_plus bs) → IsUtf8 bs
+pub numeral_utf8 : (bs : List ℕ) → AllDigits 10 (without_leading_plus bs) → IsUtf8 bs
 numeral_utf8 bs h =
     IsUtf8-from_ascii bs
     (elim (cases_eq (get_or bs 0 0) 43) [

@@ -58,7 +58,7 @@ hull p zero = λ c h. absurd (omega arith)
 hull p (suc n) = hull_grown p n (p n) (smallest p n) refl (hull p n)
 
 -- and the only one
-hull_only : (p : ℕ → Bool) (n : ℕ) (r s : Option Range) → Hull p n r → Hull p n s → r ≡ s
+pub hull_only : (p : ℕ → Bool) (n : ℕ) (r s : Option Range) → Hull p n r → Hull p n s → r ≡ s
 hull_only p n None None h k = refl
 hull_only p n None (Some s) h k = let z = h s.0 in grind (arith, k.order, k.below, k.at_first)
 hull_only p n (Some r) None h k = let z = k r.0 in grind (arith, h.order, h.below, h.at_first)

@@ -2,7 +2,7 @@
 use Rattle.std.proofs.Common.{◌≡◌, ℕ, zero, suc, ◌-◌, ◌<◌, ◌≤◌, min, Bool, true, false, ◌&&◌, ◌||◌, eqb, leb, ◌⊎◌, List, length, get_or, set, Some, None, Option, sym, refl, ap, ◌∙◌, inl, inr, arith}
 use Rattle.std.proofs.lemmas.List.FromFn.{length-map-range_with_len, get_or-map-range_with_len}
 use Rattle.std.proofs.lemmas.List.{same_lists, length-set, get_or-set_same, get_or-set_other, get_or_default}
-use Rattle.std.proofs.lemmas.Bool.{cases_eq, or_right, eq-eqb, ne_eqb}
+use Rattle.std.proofs.lemmas.Bool.{cases_eq, or_left, or_right, eq-eqb, ne_eqb}
 use Rattle.std.proofs.lemmas.Bool.Decides.{nat_tests}
 use Rattle.cells.specs.Widths.{within}
 use Rattle.std.proofs.Math.Bool.{or-false, or_assoc}
@@ -25,6 +25,11 @@ touched_fits n old hit = hull_fitting _ n (touched_row n old hit) (hull (λ c. i
 pub touched_holds : (n : ℕ) (old : Option Range) (hit : ℕ → Bool) (c : ℕ) → c < n → near hit c ≡ true → inside (touched_row n old hit) c ≡ true
 touched_holds n old hit c b t =
     hull_inside (λ c. inside old c || near hit c) n (touched_row n old hit) (hull (λ c. inside old c || near hit c) n) c b (or_right (inside old c) (near hit c) t)
+
+-- and the range before
+pub touched_keeps : (n : ℕ) (old : Option Range) (hit : ℕ → Bool) (c : ℕ) → c < n → inside old c ≡ true → inside (touched_row n old hit) c ≡ true
+touched_keeps n old hit c b t =
+    hull_inside (λ c. inside old c || near hit c) n (touched_row n old hit) (hull (λ c. inside old c || near hit c) n) c b (or_left (inside old c) (near hit c) t)
 
 -- near one of two sets of spots
 pub near_or : (h k : ℕ → Bool) (c : ℕ) → near (λ x. h x || k x) c ≡ (near h c || near k c)
@@ -141,6 +146,11 @@ module _ (n : ℕ) where
       (λ r d b.
       let within : r < length ranges = omega (arith, length-touch ranges h) in
       get_or-touch ranges h r d within ∙ row_untouched n (get_or ranges r None) (h r) (f r within) (λ c. e r c within) ∙ get_or_default ranges r None d within)
+
+  pub touch_fits : (ranges : List (Option Range)) (h : ℕ → ℕ → Bool) → AllFit (touch n ranges h)
+  touch_fits ranges h r b =
+      let within : r < length ranges = omega (arith, length-touch ranges h) in
+      rw (get_or-touch ranges h r None within) (touched_fits n (get_or ranges r None) (h r))
 
   -- one row alone
   pub touch_one : (ranges : List (Option Range)) (row : ℕ) (h : ℕ → Bool) → AllFit ranges → row < length ranges → set ranges row (touched_row n (get_or ranges row None) h) ≡ touch n ranges (λ r c. eqb r row && h c)

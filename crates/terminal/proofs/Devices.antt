@@ -8,8 +8,8 @@ use Rattle.put_rule.specs.Grids.{rows_of, put_grid}
 use Rattle.grids.specs.GridViews.{fitting, PutInto}
 use Rattle.grids.specs.declared.grids.Grid.{Grid}
 use Rattle.put_rule.proofs.GridRows.{length-rows, length-row}
-use Rattle.terminal.specs.Meanings.{Meaning, Sound}
-use Rattle.terminal.specs.Operations.{spot, moved_on, put_cells, with_room}
+use Rattle.terminal.specs.Meanings.{Meaning, Sound, on_grid}
+use Rattle.terminal.specs.Operations.{spot, moved_on, put_cells, with_room, perform, Move}
 use Rattle.terminal.specs.Devices.{usable, known, over_grid}
 use Rattle.places.specs.declared.Spot.{Spot}
 
@@ -66,6 +66,11 @@ module _ {C : Type 0} where
     cursor_column = λ s e. (known_on 0 0 cursor s e).1;
     small_need = small;
   }
+
+  -- the cursor moved to a spot of the grid
+  pub move_over : (l : Layer C) (g : Glyph C) (fit : Bool) (t : Grid C) (cursor : Option Spot) (room left need tally row column : ℕ) → on_grid (over_grid fit t cursor room need tally) row column ≡ true → over_grid fit t (Some (spot row column)) left need tally ≡ with_room left (perform l g (over_grid fit t cursor room need tally) (Move row column))
+  move_over l g fit t cursor room left need tally row column h =
+      rw (on_known (cond fit t.size.rows 0) (cond fit t.size.columns 0) row column h)
 
   -- a grid that was put into is usable as before
   pub still_usable : (limits : ℕ → ℕ → Bool) (l : Layer C) (g : Glyph C) (t u : Grid C) (row column : ℕ) (new : List C) → PutInto l g t u row column new → usable limits u ≡ usable limits t

@@ -1,5 +1,5 @@
 -- A run of operations on its way: some are done, the rest is still to do.
-use Rattle.std.proofs.Common.{◌≡◌, ℕ, suc, ◌+◌, ◌*◌, ◌≤◌, List, [], ◌∷◌, ◌++◌, length, take, Some, Ok, Err, Result, sym, refl, ap, ◌∙◌, subst, suc-mul, zero-mul, arith}
+use Rattle.std.proofs.Common.{◌≡◌, ℕ, suc, ◌+◌, ◌*◌, ◌≤◌, List, [], ◌∷◌, ◌++◌, length, take, Some, Ok, Err, Result, sym, refl, ap, ◌∙◌, subst, add-zero, suc-mul, zero-mul, arith}
 use Rattle.std.specs.List.{slice_get}
 use Rattle.std.proofs.Math.Seq.{get_or-append_seam}
 use Rattle.std.proofs.lemmas.Option.{slice_get-get_or}
@@ -73,6 +73,11 @@ performed_so_far {l = l} {g = g} {m = m} {rest = rest} w =
       no_more_room = w.no_more_room;
       room_taken = w.room_taken;
     }
+
+-- all are done
+pub going_all : {C : Type 0} {l : Layer C} {g : Glyph C} {m n : Meaning C} {ops : List (Operation C)} → Going l g m n ops [] → Performed l g m n ops (length ops)
+going_all {l = l} {g = g} {m = m} {n = n} {ops = ops} w =
+    subst (λ (k : ℕ). Performed l g m n ops k) (sym (ap length w.split ∙ length-append w.done [] ∙ add-zero (length w.done))) (performed_so_far w)
 
 -- the next operation is refused
 pub going_stopped : {C : Type 0} {l : Layer C} {g : Glyph C} {m n : Meaning C} {ops rest : List (Operation C)} {op : Operation C} {f : Fault} → Going l g m n ops (op ∷ rest) → refusal g n op ≡ Some f → Stopped l g m n ops f
