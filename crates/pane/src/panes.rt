@@ -11,7 +11,7 @@ use crate::rectangles::Rectangle;
 use cells::kinds::TerminalCell;
 use faults::Fault;
 use places::{Size, Spot};
-use terminal::refusals::{spot_of_pair, spot_of_single};
+use terminal::refusals::{check_pair, check_single, spot_of_pair, spot_of_single};
 use terminal::terminals::Terminal;
 
 // Is the rectangle inside the terminal below, and not empty?
@@ -56,6 +56,7 @@ impl<'a, T: Terminal> Pane<'a, T> {
     }
 
     // Its rows and columns, none if the rectangle is unfit.
+    #[inline] // asked for at each put
     fn size(&self) -> Size
         ensures rows { result.rows ≡ pane_rows (T.Terminal.meaning self.now.below.now) self.now.area }
         ensures columns { result.columns ≡ pane_columns (T.Terminal.meaning self.now.below.now) self.now.area }
@@ -74,6 +75,7 @@ impl<'a, T: Terminal> Pane<'a, T> {
     }
 
     // Its cursor: that of the terminal below, counted from the rectangle's corner, none if the pane does not hold it.
+    #[inline] // as `size`
     fn seen_cursor(&self) -> Option<Spot>
         ensures told { result ≡ (pane_of (T.Terminal.meaning self.now.below.now) self.now.area).cursor }
         ensures sound { Sound (T.Terminal.meaning self.now.below.now) }
@@ -138,6 +140,7 @@ impl<'a, T: Terminal> Terminal for Pane<'a, T> {
         ensures below { Effect T.Cell.LayerCell.layer T.Cell.TerminalCell.glyph (T.Terminal.meaning self.old.below.now) (T.Terminal.meaning self.new.below.now) (Put cell) result }
         ensures same { SamePane self.old self.new }
     {
+        check_single(cell)?; // before the cursor, for which a pane asks all panes below
         spot_of_single(cell, self.seen_cursor())?;
         self.below.put(cell)
     }
@@ -148,6 +151,7 @@ impl<'a, T: Terminal> Terminal for Pane<'a, T> {
         ensures below { Effect T.Cell.LayerCell.layer T.Cell.TerminalCell.glyph (T.Terminal.meaning self.old.below.now) (T.Terminal.meaning self.new.below.now) (PutPair left right) result }
         ensures same { SamePane self.old self.new }
     {
+        check_pair(left, right)?; // as above
         spot_of_pair(left, right, self.size().columns, self.seen_cursor())?;
         self.below.put_pair(left, right)
     }
