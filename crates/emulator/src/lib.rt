@@ -3,13 +3,13 @@
 
 ghost use Rattle.std.specs.Prelude.{◌≡◌, Some};
 ghost use Rattle.reader.specs.declared.states.Action.TheVariants.{Show, Right, To};
-ghost use Rattle.emulator.specs.Screens.{read_byte, read_bytes, acts, with_state, CursorOnGrid, CompletesNothing, moved_to, right_by};
+ghost use Rattle.emulator.specs.Screens.{read_byte, read_bytes, acts, does, with_state, CursorOnGrid, CompletesNothing, moved_to, right_by};
 ghost use Rattle.emulator.specs.Emulators.{screen_of, first_screen, Kept};
 
 use cells::kinds::{Made, TerminalCell};
 use grids::grids::Grid;
 use places::{Size, Spot};
-use reader::states::{Action, State};
+use reader::states::{Action, State, Step};
 use reader::steps::{ESC, begin_character, begin_sequence, continue_character, continue_sequence};
 use terminal::spots::{moved_on, on_grid};
 use text_cells::TextCell;
@@ -81,11 +81,13 @@ impl<'a> Emulator<'a> {
     }
 
     // Shows a character with the pen's attributes. It is dropped if it has no width or passes the last column, and while the cursor is unknown.
+    #[inline(always)] // as `take`
     fn show(&mut self, character: u32)
         ensures screen { screen_of self.new ≡ acts (screen_of self.old) (Show character) }
         ensures kept { Kept self.old.grid self.new.grid }
     {
-        let Some(spot) = self.cursor() else {
+        let size = self.size();
+        let Some(spot) = on_grid(size, self.cursor) else {
             return;
         };
         let (put, count) = match TextCell::make(character, self.pen) {
@@ -94,11 +96,12 @@ impl<'a> Emulator<'a> {
             Made::Nothing | Made::Singles(_, _) => return,
         };
         if put.is_ok() {
-            self.cursor = moved_on(self.size().columns, spot, count);
+            self.cursor = moved_on(size.columns, spot, count);
         }
     }
 
     // Does what a byte completed.
+    #[inline(always)] // as `take`
     fn act(&mut self, action: Action)
         ensures screen { screen_of self.new ≡ acts (screen_of self.old) action }
         ensures kept { Kept self.old.grid self.new.grid }
@@ -114,20 +117,29 @@ impl<'a> Emulator<'a> {
         }
     }
 
+    // Stands where a byte led to, and does what it completed, if anything.
+    #[inline(always)] // the answer of each arm of `read` is taken where it is made, and does not go through memory
+    fn take(&mut self, step: Step)
+        ensures screen { screen_of self.new ≡ does (with_state step.0 (screen_of self.old)) step.1 }
+        ensures kept { Kept self.old.grid self.new.grid }
+    {
+        let (state, action) = step;
+        self.state = state;
+        if let Some(action) = action {
+            self.act(action);
+        }
+    }
+
     // Reads a byte: every byte is taken, in every state.
     pub fn read(&mut self, byte: u8)
         ensures screen { screen_of self.new ≡ read_byte (screen_of self.old) byte }
         ensures kept { Kept self.old.grid self.new.grid }
     {
-        let (state, action) = match (self.state, byte) {
-            (State::Plain, ESC) => begin_sequence(),
-            (State::Plain, _) => begin_character(byte),
-            (State::InSequence(sequence), _) => continue_sequence(sequence, byte),
-            (State::InCharacter(gathered), _) => continue_character(gathered, byte),
-        };
-        self.state = state;
-        if let Some(action) = action {
-            self.act(action);
+        match (self.state, byte) {
+            (State::Plain, ESC) => self.take(begin_sequence()),
+            (State::Plain, _) => self.take(begin_character(byte)),
+            (State::InSequence(sequence), _) => self.take(continue_sequence(sequence, byte)),
+            (State::InCharacter(gathered), _) => self.take(continue_character(gathered, byte)),
         }
     }
 
