@@ -1,5 +1,5 @@
--- A part of memory filled with one cell.
-use Rattle.std.proofs.Common.{◌≡◌, ℕ, ◌+◌, ◌-◌, ◌^◌, ◌<◌, min, List, length, get_or, inl, inr, arith, length-append, length-take, length-drop}
+-- A part of memory filled with one cell, or one cell put.
+use Rattle.std.proofs.Common.{◌≡◌, ℕ, ◌+◌, ◌-◌, ◌^◌, ◌<◌, ◌≤◌, min, List, length, get_or, set, inl, inr, arith, length-append, length-take, length-drop}
 use Rattle.std.proofs.lemmas.List.{get_or_default}
 use Rattle.std.proofs.lemmas.Grind.{common_steps}
 use Rattle.std.proofs.lemmas.Bool.{cases_lt}
@@ -7,7 +7,7 @@ use Rattle.std.proofs.lemmas.Bool.Decides.{nat_tests}
 use borrow.Rule.Slice.PartMut.{put_mid}
 use Rattle.cells.specs.Kinds.{Layer}
 use Rattle.areas.specs.Memories.{by_address}
-use Rattle.areas.proofs.MemoryLaws.{memory_is}
+use Rattle.areas.proofs.MemoryLaws.{memory_is, by_address_same}
 use Rattle.cell_memory.specs.Writing.{filled}
 
 module _ {C : Type 0} (l : Layer C) (memory new : List C) (from count all end start : ℕ) (c : C) where
@@ -19,3 +19,14 @@ module _ {C : Type 0} (l : Layer C) (memory new : List C) (from count all end st
         | inl h ↦ grind (arith, nat_tests, common_steps)
         | inr h ↦ let one = same (x - start) d in elim (cases_lt x end) [ inl k ↦ grind (arith, nat_tests, common_steps) | inr k ↦ grind (arith, nat_tests, common_steps) ]
       ])
+
+module _ {C : Type 0} (l : Layer C) (memory : List C) (address : ℕ) (c : C) where
+  -- a cell within the memory
+  pub one_put : address < length memory → set memory address c ≡ by_address memory (filled l memory address 1 c)
+  one_put within =
+      memory_is memory (set memory address c) (filled l memory address 1 c) (grind (arith, common_steps))
+      (λ x d b. let blank = get_or_default memory x d l.blank b in grind (arith, nat_tests, common_steps))
+
+  -- or past it
+  pub none_put : length memory ≤ address → memory ≡ by_address memory (filled l memory address 1 c)
+  none_put past = by_address_same memory (filled l memory address 1 c) (λ x d b. let blank = get_or_default memory x d l.blank b in grind (arith, nat_tests))

@@ -34,6 +34,16 @@ pub fn shift<C: LayerCell>(memory: &mut [C], to: usize, distance: usize, count: 
     }
 }
 
+// Writes a cell, unless the address lies past the memory's end.
+fn put<C: LayerCell>(memory: &mut [C], address: usize, cell: C)
+    ensures { memory.new ≡ by_address memory.old (filled C.LayerCell.layer memory.old address 1 cell) }
+{
+    // not by `fill`: a text is written cell by cell, and the two ends of a part cost more than one test
+    if address < memory.len() {
+        memory[address] = cell;
+    }
+}
+
 // Writes the cells that a character made from an address on, and says how many they are.
 pub fn put_made<C: LayerCell>(memory: &mut [C], address: usize, made: Made<C>) -> usize
     ensures count { result ≡ length (cells_in made) }
@@ -42,12 +52,12 @@ pub fn put_made<C: LayerCell>(memory: &mut [C], address: usize, made: Made<C>) -
     match made {
         Made::Nothing => 0,
         Made::Single(cell) => {
-            fill(memory, address, 1, cell);
+            put(memory, address, cell);
             1
         }
         Made::Pair(left, right) | Made::Singles(left, right) => {
-            fill(memory, address, 1, left);
-            fill(memory, address.saturating_add(1), 1, right);
+            put(memory, address, left);
+            put(memory, address.saturating_add(1), right);
             2
         }
     }
