@@ -1,5 +1,5 @@
 // Composing: which panel is on top at a spot, and the cells of a row.
-ghost use Rattle.std.specs.Prelude.{◌≡◌, true};
+ghost use Rattle.std.specs.Prelude.{◌≡◌, true, option_copied};
 ghost use Rattle.areas.specs.Memories.{by_address};
 ghost use Rattle.panels.specs.Places.{covers, shown_address, is_small};
 ghost use Rattle.panels.specs.Decks.{deck_of, panel_in, panel_of};
@@ -12,11 +12,11 @@ use cells::kinds::LayerCell;
 use places::Spot;
 
 impl Panels {
-    // The small panel of a number, none if it was never given.
-    pub(crate) fn small(&self, number: usize) -> Option<SmallPanel>
-        ensures { panel_in result ≡ panel_of (deck_of self.now) number }
+    // The small panel of a number, none if it was never given: lent, since a copy of it reads all of it.
+    pub(crate) fn small(&self, number: usize) -> Option<&SmallPanel>
+        ensures { panel_in (option_copied result) ≡ panel_of (deck_of self.now) number }
     {
-        self.given.get(number).copied().flatten()
+        self.given.get(number)?.as_ref()
     }
 
     // The panel of a number, none if it was never given.

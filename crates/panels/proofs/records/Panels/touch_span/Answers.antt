@@ -1,4 +1,5 @@
 use Rattle.std.proofs.Common.{◌<◌, ◌||◌, length, take, get_or, refl, sym, ap, ◌∙◌}
+use Rattle.std.specs.Option.{option_copied}
 use Rattle.std.proofs.lemmas.List.Folds.{list_any_more}
 use Rattle.areas.specs.Addresses.{in_span}
 use Rattle.touching.specs.TouchedRows.{Touching}
@@ -19,8 +20,8 @@ loop-number-preserved c =
     let within : place < length d.order = rw (sym c.numbers-number-items.ensures) c.loop-number-test.true in
     let one : Touching c.loop-number.touched c.match-small.touched (shows (in_span c.args.from c.args.count) (panel_of d number)) =
     elim c.match-small.branch [
-      | in-Some w ↦ rw (w.touched-is, sym c.small.ensures ∙ ap panel_in w.in-Some.is) w.touch.ensures
-      | in_default w ↦ rw w.touched-is (touching_none c.loop-number.touched _ (λ r x h. ap (λ p. shows (in_span c.args.from c.args.count) p r x) (sym c.small.ensures ∙ ap panel_in w.in_default.is)))
+      | in-Some w ↦ rw (w.touched-is, sym c.small.ensures ∙ ap (λ small. panel_in (option_copied small)) w.in-Some.is) w.touch.ensures
+      | in_default w ↦ rw w.touched-is (touching_none c.loop-number.touched _ (λ r x h. ap (λ p. shows (in_span c.args.from c.args.count) p r x) (sym c.small.ensures ∙ ap (λ small. panel_in (option_copied small)) w.in_default.is)))
     ] in
     touching_like c.args.touched.now c.match-small.touched _ _
     (λ r x h b. ap (λ n. any (λ m. shows (in_span c.args.from c.args.count) (panel_of d m) r x) (take place d.order) || shows (in_span c.args.from c.args.count) (panel_of d n) r x) (ap (λ xs. get_or xs place 0) c.numbers-number-items.ensures)
